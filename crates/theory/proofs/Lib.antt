@@ -1,0 +1,2 @@
+-- The theorems. Index lists the final statements; each other file proves what its name says.
+pub mod Cases
