@@ -49,10 +49,10 @@ cut P (tree b j r) (inr x) = tree b j (cut P r x)
 abbrev pub Shed : Forest Tag → Forest Tag → Type 0
 Shed bare g = ⊥
 Shed (tree a k r) g =
-  (Any (λ b j. Onto a k b j) r × (g ≡ r))
-  ⊎ (((x : Any (λ b j. Onto b j a k) r) × (g ≡ tree a k (cut (λ b j. Onto b j a k) r x)))
-  ⊎ (((k′ : Forest Tag) × Shed k k′ × (g ≡ tree a k′ r))
-  ⊎ ((r′ : Forest Tag) × Shed r r′ × (g ≡ tree a k r′))))
+    (Any (λ b j. Onto a k b j) r × (g ≡ r))
+    ⊎ (((x : Any (λ b j. Onto b j a k) r) × (g ≡ tree a k (cut (λ b j. Onto b j a k) r x)))
+    ⊎ (((k′ : Forest Tag) × Shed k k′ × (g ≡ tree a k′ r))
+    ⊎ ((r′ : Forest Tag) × Shed r r′ × (g ≡ tree a k r′))))
 
 -- any number of brothers have gone, one after the other
 pub data Sheds : Forest Tag → Forest Tag → Type 0 where

@@ -93,10 +93,10 @@ aboveFactor (x ∷ xs) l = proj2 (all (x ∷ xs)) ∷ l
 abbrev pub factors : Forest Tag → List Expr → List Expr
 factors bare way = []
 factors (tree a k r) way =
-  cond (bothIn a k)
+    cond (bothIn a k)
     (cond (someTree bothIn k)
-      (factors k (way ++ labelled (a .lab) (off bothIn k (child ∷ []))))
-      (ups k ++ aboveFactor way (labelled (a .lab) (off eitherIn k (downs k)))))
+    (factors k (way ++ labelled (a .lab) (off bothIn k (child ∷ []))))
+    (ups k ++ aboveFactor way (labelled (a .lab) (off eitherIn k (downs k)))))
     (factors r way)
 
 -- "Empty is the word 0."

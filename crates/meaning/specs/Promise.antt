@@ -63,10 +63,10 @@ pub record Question : Type 0 where
 -- "then 8, 9, 10 for the pair question"
 abbrev pub tabled : Question → Expr → Outcome Expr
 tabled q e =
-  cond (goodTable (q .parents) (q .labels))
+    cond (goodTable (q .parents) (q .labels))
     (cond (ltb (q .m) (length (q .parents)) && ltb (q .n) (length (q .parents)))
-      (cond (leb tableBytes (length (q .workspace))) (answered e) (refused 10 tableBytes))
-      (refused 9 0))
+    (cond (leb tableBytes (length (q .workspace))) (answered e) (refused 10 tableBytes))
+    (refused 9 0))
     (refused 8 0)
 
 -- the query that is answered, or the refusal: 1 to 6, then 8, 9, 10

@@ -26,16 +26,16 @@ pub data Sign : Type 0 where
 -- signs 0 to 8
 abbrev pub signs : List Sign
 signs =
-  operand empty
-  ∷ operand self
-  ∷ operand child
-  ∷ operand parent
-  ∷ binary comp
-  ∷ unary proj1
-  ∷ unary proj2
-  ∷ binary inter
-  ∷ unary inv
-  ∷ []
+    operand empty
+    ∷ operand self
+    ∷ operand child
+    ∷ operand parent
+    ∷ binary comp
+    ∷ unary proj1
+    ∷ unary proj2
+    ∷ binary inter
+    ∷ unary inv
+    ∷ []
 
 -- "9+L: label L"
 unfoldable pub signOf : ℕ → Sign
@@ -65,10 +65,10 @@ onTwo f (e ∷ (d ∷ es)) at k = answered (record { operands = f d e ∷ es; st
 -- refusal 4: "an operand sign would make 257 pending operands"; refusal 5: "a step sign is the 256th step"; "at one sign 4 goes before 5"
 abbrev pub pushed : Bool → Expr → List Expr → ℕ → ℕ → Outcome Pending
 pushed step e es at k =
-  cond (ltb (length es) 256)
+    cond (ltb (length es) 256)
     (cond step
-      (cond (ltb k 255) (answered (record { operands = e ∷ es; steps = k + 1 })) (refused 5 at))
-      (answered (record { operands = e ∷ es; steps = k })))
+    (cond (ltb k 255) (answered (record { operands = e ∷ es; steps = k + 1 })) (refused 5 at))
+    (answered (record { operands = e ∷ es; steps = k })))
     (refused 4 at)
 
 -- a sign that stands at place `at`
