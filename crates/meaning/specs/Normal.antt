@@ -88,16 +88,18 @@ abbrev pub aboveFactor : List Expr → List Expr → List Expr
 aboveFactor [] l = l
 aboveFactor (x ∷ xs) l = proj2 (all (x ∷ xs)) ∷ l
 
--- the factors in order. `way` is the way above: "own factors of each node above t, each followed by child".
--- t is the lowest node that holds both s and d: where a child holds both, t lies there or below
+-- the way above, one node longer: "own factors of each node above t, each followed by child"
+abbrev pub longer : List Expr → Tag → Forest Tag → List Expr
+longer way a k = way ++ labelled (a .lab) (off bothIn k (child ∷ []))
+
+-- the factors where the node is t: up from s, the way above, t's own factors, down to d
+abbrev pub around : List Expr → Tag → Forest Tag → List Expr
+around way a k = ups k ++ aboveFactor way (labelled (a .lab) (off eitherIn k (downs k)))
+
+-- the factors in order. "t is the lowest node above or at both s and d": where a child holds both, t lies there or below
 abbrev pub factors : Forest Tag → List Expr → List Expr
 factors bare way = []
-factors (tree a k r) way =
-    cond (bothIn a k)
-    (cond (someTree bothIn k)
-    (factors k (way ++ labelled (a .lab) (off bothIn k (child ∷ []))))
-    (ups k ++ aboveFactor way (labelled (a .lab) (off eitherIn k (downs k)))))
-    (factors r way)
+factors (tree a k r) way = cond (bothIn a k) (cond (someTree bothIn k) (factors k (longer way a k)) (around way a k)) (factors r way)
 
 -- "Empty is the word 0."
 abbrev pub normal : Forest Tag → Expr

@@ -60,14 +60,17 @@ pub record Question : Type 0 where
   pub n : ℕ
   pub workspace : List ℕ
 
--- "then 8, 9, 10 for the pair question"
+-- refusal 10: "the workspace has under 32,768 bytes"
+abbrev pub spaced : Question → Expr → Outcome Expr
+spaced q e = cond (leb tableBytes (length (q .workspace))) (answered e) (refused 10 tableBytes)
+
+-- refusal 9: "a node of the pair is not in the table"
+abbrev pub paired : Question → Expr → Outcome Expr
+paired q e = cond (ltb (q .m) (length (q .parents)) && ltb (q .n) (length (q .parents))) (spaced q e) (refused 9 0)
+
+-- refusal 8: "the table is bad"; "then .. 8, 9, 10 for the pair question"
 abbrev pub tabled : Question → Expr → Outcome Expr
-tabled q e =
-    cond (goodTable (q .parents) (q .labels))
-    (cond (ltb (q .m) (length (q .parents)) && ltb (q .n) (length (q .parents)))
-    (cond (leb tableBytes (length (q .workspace))) (answered e) (refused 10 tableBytes))
-    (refused 9 0))
-    (refused 8 0)
+tabled q e = cond (goodTable (q .parents) (q .labels)) (paired q e) (refused 8 0)
 
 -- the query that is answered, or the refusal: 1 to 6, then 8, 9, 10
 unfoldable pub asked : Question → Outcome Expr

@@ -62,14 +62,14 @@ onTwo f [] at k = refused 3 at
 onTwo f (e ∷ []) at k = refused 3 at
 onTwo f (e ∷ (d ∷ es)) at k = answered (record { operands = f d e ∷ es; steps = k })
 
--- refusal 4: "an operand sign would make 257 pending operands"; refusal 5: "a step sign is the 256th step"; "at one sign 4 goes before 5"
+-- refusal 5: "a step sign is the 256th step"
+abbrev pub counted : Bool → Expr → List Expr → ℕ → ℕ → Outcome Pending
+counted false e es at k = answered (record { operands = e ∷ es; steps = k })
+counted true e es at k = cond (ltb k 255) (answered (record { operands = e ∷ es; steps = k + 1 })) (refused 5 at)
+
+-- refusal 4: "an operand sign would make 257 pending operands"; "at one sign 4 goes before 5"
 abbrev pub pushed : Bool → Expr → List Expr → ℕ → ℕ → Outcome Pending
-pushed step e es at k =
-    cond (ltb (length es) 256)
-    (cond step
-    (cond (ltb k 255) (answered (record { operands = e ∷ es; steps = k + 1 })) (refused 5 at))
-    (answered (record { operands = e ∷ es; steps = k })))
-    (refused 4 at)
+pushed step e es at k = cond (ltb (length es) 256) (counted step e es at k) (refused 4 at)
 
 -- a sign that stands at place `at`
 abbrev pub applied : Sign → Bool → Pending → ℕ → Outcome Pending
