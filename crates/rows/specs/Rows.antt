@@ -7,6 +7,7 @@ use mathlib.Core.List.{List}
 use Prim.Native.Nat.{ℕ, zero, suc, _+_, _%_, _≤_, _<_}
 use lib.ListN.{length, getD}
 use lib.Dec.{ltb, eqb}
+use Rattle.meaning.specs.Number.{largestLabel}
 use Rattle.meaning.specs.TreeQuery.{Lab, any, lab}
 use Rattle.meaning.specs.Tree.{Forest, bare, tree, Tag, size}
 
@@ -76,7 +77,7 @@ pub record Rows (code mark kids span up : List ℕ) (n : ℕ) : Type 0 where
   pub counts : n ≤ length kids
   pub spans : n ≤ length span
   pub ups : n ≤ length up
-  pub labels : (u : ℕ) → u < n → getD code u 0 ≤ 65536
+  pub labels : (u : ℕ) → u < n → getD code u 0 ≤ suc largestLabel
   pub marked : (u : ℕ) → u < n → getD mark u 0 ≤ 3
   pub laid : Holds span 0 n (shape span n)
   pub counted : Counted kids (shape span n)
