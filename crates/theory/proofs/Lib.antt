@@ -2,4 +2,4 @@
 pub mod Cases
 pub mod Document
 pub mod Promise
-pub mod Ways
+pub mod Pair
