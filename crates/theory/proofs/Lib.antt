@@ -1,4 +1,6 @@
 -- The theorems. Index lists the final statements; each other file proves what its name says.
 pub mod Cases
 pub mod Folding
+pub mod Removal
+pub mod Minimal
 pub mod Unique

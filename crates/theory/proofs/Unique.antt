@@ -1,12 +1,14 @@
--- "The paper's minimality claims must come out" for folding among brothers (01, Folding; paper, section 7): two forests that are folded to the end
--- and fold onto each other are the same up to the order of brothers, and no forest that folds to and fro with one of them is smaller.
-use mathlib.Core.Path.{_≡_, refl, sym, ap, subst}
-use mathlib.Core.Logic.{_⊎_, inl, inr}
-use Prim.Native.Nat.{ℕ, suc, _+_, _≤_}
+-- ".. the paper's minimality claims must come out for it" (01, Folding; paper, section 7): two forests that are folded to the end and fold onto each other
+-- are the same up to the order of brothers; so every order of folding ends in the same tree, and none of the forests that fold to and fro with it is smaller.
+use mathlib.Core.Path.{_≡_, refl, ap}
+use mathlib.Core.Logic.{inl, inr}
+use Prim.Native.Nat.{_≤_}
 use native.Mathlib.Omega.{arith}
 use Rattle.meaning.specs.Tree.{Forest, bare, tree, Tag, Any, size}
-use Rattle.meaning.specs.Folding.{TagLe, Folds, Onto, Reduced, cut, Sheds, minimal}
-use Rattle.theory.proofs.Folding.{tag-anti, any-map, folds-trans, onto-trans, Equal, equal-trans, cut-pruned, pruned-from, pruned-reduced, cut-found, sheds-equal, minimal-equal, minimal-reduced, minimal-size}
+use Rattle.meaning.specs.Folding.{Folds, Onto, Reduced, cut, Sheds, minimal}
+use Rattle.theory.proofs.Folding.{tag-anti, any-map, folds-trans, onto-trans, Equal, equal-trans}
+use Rattle.theory.proofs.Removal.{cut-pruned, pruned-from, pruned-reduced, cut-found, sheds-equal}
+use Rattle.theory.proofs.Minimal.{minimal-equal, minimal-reduced, minimal-size}
 
 -- the same up to the order of brothers, everywhere
 abbrev pub Same : {A : Type 0} → Forest A → Forest A → Type 0
@@ -83,11 +85,12 @@ unique (tree a k r) g rf rg (x, x′) y =
     (unique r c (rf .1) (pruned-reduced m rg) (others-to a k r g z (rf .3) x′)
     (others-from a k r c (cut-alone a k g z rg) (folds-trans c g (tree a k r) (pruned-from m) y)))
 
--- however a forest was folded to the end, the minimal tree came out
+-- whatever is folded to the end and folds to and fro with a forest is its minimal tree
 pub minimal-same : (f g : Forest Tag) → Reduced g → Equal f g → Same g (minimal f)
 minimal-same f g rg (x, y) =
     let e = equal-trans g f (minimal f) (y, x) (minimal-equal f) in unique g (minimal f) rg (minimal-reduced f) (e .0) (e .1)
 
+-- "(if each folds onto the other, one of them)": whichever brothers go, and in whatever order, the minimal tree is left
 pub sheds-to-minimal-same : (f g : Forest Tag) → Sheds f g → Reduced g → Same g (minimal f)
 sheds-to-minimal-same f g s rg = minimal-same f g rg (sheds-equal f g s)
 
