@@ -108,7 +108,7 @@ sift P d (tree a k r) = pick (d a k) (sift P d r) (tree a k (sift P d r))
 unfoldable pub add : Tag → Forest Tag → Forest Tag → Forest Tag
 add a k f = pick (decAny (λ b j. Onto a k b j) (decOnto a k) f) f (tree a k (sift (λ b j. Onto b j a k) (λ b j. decOnto b j a k) f))
 
--- the minimal tree: folded below, then among the brothers. That any other order of folding ends in the same image is proved in theory (Folding)
+-- the minimal tree: folded below, then among the brothers. That any other order of folding ends in the same image is proved in theory (Unique)
 unfoldable pub minimal : Forest Tag → Forest Tag
 minimal bare = bare
 minimal (tree a k r) = add a (minimal k) (minimal r)

@@ -3,3 +3,7 @@ pub mod Cases
 pub mod Document
 pub mod Promise
 pub mod Pair
+pub mod Folding
+pub mod Removal
+pub mod Minimal
+pub mod Unique
