@@ -2,3 +2,4 @@
 pub mod Cases
 pub mod ByteOrder
 pub mod Numbers
+pub mod Records
