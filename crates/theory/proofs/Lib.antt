@@ -3,3 +3,5 @@ pub mod Cases
 pub mod ByteOrder
 pub mod Numbers
 pub mod Records
+pub mod Count
+pub mod Ways
