@@ -5,3 +5,4 @@ pub mod Numbers
 pub mod Records
 pub mod Count
 pub mod Ways
+pub mod Limits

@@ -60,12 +60,15 @@ sorted-place a k (tree b j r) sk (e, sj, sr) = go (decL (record1 a k) (record1 b
   where
     go : (d : Dec (LeL (record1 a k) (record1 b j))) → Sorted (place a k r) → Sorted (pick d (tree a k (tree b j r)) (tree b j (place a k r)))
     go (yes p) ih = (cc (insert-before (record1 a k) (record1 b j) (records r) p), sk, (e, sj, sr))
-    go (no n) ih =
-        (cc (
-            records-place a k r,
-            insert-comm (record1 b j) (record1 a k) (records r),
-            insert-behind (record1 a k) (record1 b j) (records r) n,
-        ), sj, ih)
+    go (no n) ih = (
+      cc (
+        records-place a k r,
+        insert-comm (record1 b j) (record1 a k) (records r),
+        insert-behind (record1 a k) (record1 b j) (records r) n,
+      ),
+      sj,
+      ih,
+    )
 
 pub sorted-ordered : (f : Forest Tag) → Sorted (ordered f)
 sorted-ordered bare = tt
@@ -137,9 +140,9 @@ flat-back bare (tree b j s) x y sf sg l e = absurd (not-alike b j s sg (alike-sy
 flat-back (tree a k r) bare x y sf sg l e = absurd (not-alike a k r sf l)
 flat-back (tree a k r) (tree b j s) x y sf sg l e =
     let (el, em, en, ez) =
-        three-back (labCode (a .lab)) (markCode (a .src) (a .dst)) (length (records k)) (labCode (b .lab)) (markCode (b .src) (b .dst)) (length (records j))
-            (flat (records k) ++ (flat (records r) ++ x)) (flat (records j) ++ (flat (records s) ++ y))
-            (sym (first-numbers a k r x sf) ∙ e ∙ first-numbers b j s y sg) in
+    three-back (labCode (a .lab)) (markCode (a .src) (a .dst)) (length (records k)) (labCode (b .lab)) (markCode (b .src) (b .dst)) (length (records j))
+    (flat (records k) ++ (flat (records r) ++ x)) (flat (records j) ++ (flat (records s) ++ y))
+    (sym (first-numbers a k r x sf) ∙ e ∙ first-numbers b j s y sg) in
     let (ek, ey) = flat-back k j (flat (records r) ++ x) (flat (records s) ++ y) (sf .1) (sg .1) (inl en) ez in
     let (er, ex) = flat-back r s x y (sf .2) (sg .2) (alike-rest a k r b j s sf sg ek l) ey in
     ((λ i. tree (tag-back a b el em i) (ek i) (er i)), ex)
