@@ -6,3 +6,4 @@ pub mod Records
 pub mod Count
 pub mod Ways
 pub mod Limits
+pub mod Reread
