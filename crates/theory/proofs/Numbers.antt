@@ -30,6 +30,9 @@ numF-more f n le = go (decLt n 128)
     go (yes p) = absurd (omega arith)
     go (no q) = refl
 
+pub num-one : (n : ℕ) → n < 128 → num n ≡ n ∷ []
+num-one n lt = numF-one n n lt
+
 -- the first number that needs more than g + 1 groups
 abbrev pub reach : ℕ → ℕ
 reach zero = 128

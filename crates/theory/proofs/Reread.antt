@@ -14,7 +14,7 @@ use Rattle.meaning.specs.Expression.{Expr, empty, self, child, parent, label, c
 use Rattle.meaning.specs.Number.{num, Got, got, broken, groups, notAbove, readNumber, largestLabel, largestSign}
 use Rattle.meaning.specs.Word.{Outcome, refused, answered, andThen, Sign, operand, unary, binary, signs, signOf, isStep, Pending, onOne, onTwo, counted, pushed, applied, takes, onlyOne, atEnd, onNumber, run, readWord}
 use Rattle.meaning.specs.Normal.{wordOf}
-use Rattle.theory.proofs.Numbers.{read-num, groups-moves}
+use Rattle.theory.proofs.Numbers.{num-one, read-num, groups-moves}
 use Rattle.theory.proofs.Limits.{Small}
 
 abbrev pub need : Expr → ℕ
@@ -114,3 +114,83 @@ module _ (word : List ℕ) where
       ∙ run-one (length word) at st ((number-inside word at v n e) .0)
       ∙ ap (onNumber (λ next u. onFrom next u) at st) e
       ∙ ap (λ o. andThen o (onFrom (at + n))) t
+
+  -- ------------------------------------------------------------------ the word of an expression
+  abbrev pend : List Expr → ℕ → Pending
+  pend es k = record { operands = es; steps = k }
+
+  -- the reader goes through the word of e wherever it stands, and e is pending then
+  abbrev pub Goes : Expr → Type 0
+  Goes e = (at : ℕ) (rest : List ℕ) (es : List Expr) (k : ℕ) → drop at word ≡ wordOf e ++ rest → k + steps e ≤ 255 → length es + need e ≤ 256
+      → onFrom at (record { operands = es; steps = k }) ≡ onFrom (at + length (wordOf e)) (record { operands = e ∷ es; steps = k + steps e })
+
+  drop-on : (at : ℕ) (x y : List ℕ) → drop at word ≡ x ++ y → drop (at + length x) word ≡ y
+  drop-on at x y e = sym (drop-drop (length x) at word) ∙ ap (drop (length x)) e ∙ drop-append-seam x y
+
+  sign-turn : (at v : ℕ) (w rest : List ℕ) (st u : Pending) → w ≡ num v → v ≤ largestSign → drop at word ≡ w ++ rest → takes v st at ≡ answered u → onFrom at st ≡ onFrom (at + length w) u
+  sign-turn at v w rest st u ew le e t = rw ew (turn at v (length (num v)) st u (read-at word at v rest (rw ew at e) le) t)
+
+  push : (e : Expr) (b : Bool) (es : List Expr) (at k : ℕ) → steps e ≡ cond b 1 0 → k + steps e ≤ 255 → length es < 256
+      → applied (operand e) b (pend es k) at ≡ answered (pend (e ∷ es) (k + steps e))
+  push e true es at k q le lt = rw (lt-ltb (length es) 256 lt, lt-ltb k 255 (omega arith), q)
+  push e false es at k q le lt = rw (lt-ltb (length es) 256 lt, q) (ap (λ j. answered (pend (e ∷ es) j)) (let z : k ≡ k + 0 = omega arith in z))
+
+  goes-leaf : (e : Expr) (v : ℕ) (b : Bool) → wordOf e ≡ num v → v ≤ largestSign → signOf v ≡ operand e → isStep v ≡ b → steps e ≡ cond b 1 0 → 1 ≤ need e → Goes e
+  unfolding takes
+  goes-leaf e v b ew le es eb q n at rest es′ k d s l =
+      sign-turn at v (wordOf e) rest (pend es′ k) (pend (e ∷ es′) (k + steps e)) ew le d (rw (es, eb) (push e b es′ at k q s (omega arith)))
+
+  goes-unary : (op : Expr → Expr) (v : ℕ) (e : Expr) → v < 128 → signOf v ≡ unary op → wordOf (op e) ≡ wordOf e ++ (v ∷ []) → steps (op e) ≡ steps e → need (op e) ≡ need e
+      → Goes e → Goes (op e)
+  unfolding takes
+  goes-unary op v e lt eo ew q n ih at rest es k d s l =
+      let d′ = d ∙ ap (λ w. w ++ rest) ew ∙ append-assoc (wordOf e) (v ∷ []) rest in
+      let len = ap length ew ∙ length-append (wordOf e) (v ∷ []) in
+      ih at ((v ∷ []) ++ rest) es k d′ (omega arith) (omega arith)
+      ∙ sign-turn (at + length (wordOf e)) v (v ∷ []) rest (pend (e ∷ es) (k + steps e)) (pend (op e ∷ es) (k + steps e)) (sym (num-one v lt)) (omega arith) (drop-on at (wordOf e) ((v ∷ []) ++ rest) d′) (rw eo)
+      ∙ (λ i. onFrom ((let z : at + length (wordOf e) + 1 ≡ at + length (wordOf (op e)) = omega arith in z) i) (pend (op e ∷ es) (k + sym q i)))
+
+  goes-binary : (op : Expr → Expr → Expr) (v : ℕ) (e f : Expr) → v < 128 → signOf v ≡ binary op → wordOf (op e f) ≡ wordOf e ++ (wordOf f ++ (v ∷ []))
+      → steps (op e f) ≡ steps e + steps f → need (op e f) ≡ max (need e) (suc (need f)) → Goes e → Goes f → Goes (op e f)
+  unfolding takes
+  goes-binary op v e f lt eo ew q n ihe ihf at rest es k d s l =
+      let d′ : drop at word ≡ wordOf e ++ (wordOf f ++ ((v ∷ []) ++ rest)) = rw d (rw ew (simp append-assoc)) in
+      let df = drop-on at (wordOf e) (wordOf f ++ ((v ∷ []) ++ rest)) d′ in
+      let dv = drop-on (at + length (wordOf e)) (wordOf f) ((v ∷ []) ++ rest) df in
+      let len = ap length ew in
+      let len₁ = length-append (wordOf e) (wordOf f ++ (v ∷ [])) in
+      let len₂ = length-append (wordOf f) (v ∷ []) in
+      ihe at (wordOf f ++ ((v ∷ []) ++ rest)) es k d′ (omega arith) (omega arith)
+      ∙ ihf (at + length (wordOf e)) ((v ∷ []) ++ rest) (e ∷ es) (k + steps e) df (omega arith) (omega arith)
+      ∙ sign-turn (at + length (wordOf e) + length (wordOf f)) v (v ∷ []) rest (pend (f ∷ (e ∷ es)) (k + steps e + steps f)) (pend (op e f ∷ es) (k + steps e + steps f)) (sym (num-one v lt)) (omega arith) dv (rw eo)
+      ∙ (λ i. onFrom ((let z : at + length (wordOf e) + length (wordOf f) + 1 ≡ at + length (wordOf (op e f)) = omega arith in z) i) (pend (op e f ∷ es) ((let z : k + steps e + steps f ≡ k + steps (op e f) = omega arith in z) i)))
+
+  -- the sign of a label is an operand and no step
+  sign-label : (l : ℕ) → signOf (9 + l) ≡ operand (label l)
+  unfolding signOf
+  sign-label l = List·getD-eq-default signs (operand (label (9 + l - 9))) {n = 9 + l} (omega arith) ∙ ap (λ n. operand (label n)) (let z : 9 + l - 9 ≡ l = omega arith in z)
+
+  step-label : (l : ℕ) → isStep (9 + l) ≡ false
+  unfolding isStep
+  step-label l = rw (ne-eqb (9 + l) 2 (λ z. omega arith), ne-eqb (9 + l) 3 (λ z. omega arith))
+
+  pub run-word : (e : Expr) → LabelsIn Small e → Goes e
+  unfolding signOf isStep
+  run-word empty h = goes-leaf empty 0 false (sym (num-one 0 (omega arith))) (omega arith) refl refl refl (omega arith)
+  run-word self h = goes-leaf self 1 false (sym (num-one 1 (omega arith))) (omega arith) refl refl refl (omega arith)
+  run-word child h = goes-leaf child 2 true (sym (num-one 2 (omega arith))) (omega arith) refl refl refl (omega arith)
+  run-word parent h = goes-leaf parent 3 true (sym (num-one 3 (omega arith))) (omega arith) refl refl refl (omega arith)
+  run-word (label l) h = goes-leaf (label l) (9 + l) false refl (omega arith) (sign-label l) (step-label l) refl (omega arith)
+  run-word (comp e f) (he, hf) = goes-binary comp 4 e f (omega arith) refl refl refl refl (run-word e he) (run-word f hf)
+  run-word (proj1 e) h = goes-unary proj1 5 e (omega arith) refl refl refl refl (run-word e h)
+  run-word (proj2 e) h = goes-unary proj2 6 e (omega arith) refl refl refl refl (run-word e h)
+  run-word (inter e f) (he, hf) = goes-binary inter 7 e f (omega arith) refl refl refl refl (run-word e he) (run-word f hf)
+  run-word (inv e) h = goes-unary inv 8 e (omega arith) refl refl refl refl (run-word e h)
+
+-- the word of an expression is accepted as that expression
+pub read-word : (e : Expr) → LabelsIn Small e → steps e ≤ 255 → need e ≤ 256 → length (wordOf e) ≤ 4096 → readWord (wordOf e) ≡ answered e
+unfolding readWord atEnd
+read-word e h s n l =
+    rw (le-ltb 4096 (length (wordOf e)) l)
+    (run-word (wordOf e) e h 0 [] [] 0 (sym (append-nil (wordOf e))) (omega arith) (omega arith)
+    ∙ run-past (wordOf e) (length (wordOf e)) (0 + length (wordOf e)) (record { operands = e ∷ []; steps = 0 + steps e }) (omega arith))
