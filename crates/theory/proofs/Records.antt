@@ -3,17 +3,19 @@
 use mathlib.Core.Path.{_≡_, refl, sym, ap, _∙_}
 use mathlib.Core.Logic.{_⊎_, inl, inr}
 use mathlib.Core.Bool.{Bool, true, false}
-use mathlib.Core.List.{List, [], _∷_, _++_, append-assoc, append-nil}
+use mathlib.Core.List.{List, [], _∷_, _++_, append-assoc}
 use Prim.Native.Nat.{ℕ, zero, suc, _+_}
 use native.Mathlib.Omega.{arith}
 use lib.ListN.{length}
 use Rattle.meaning.specs.Basics.{pick}
 use Rattle.meaning.specs.TreeQuery.{Lab, any, lab}
-use Rattle.meaning.specs.Tree.{Forest, bare, tree, Tag, size}
+use Rattle.meaning.specs.Tree.{Forest, bare, tree, Tag, Any, size}
+use Rattle.meaning.specs.Folding.{cut}
 use Rattle.meaning.specs.Number.{num}
 use Rattle.meaning.specs.Image.{LeL, decL, insert, labCode, markCode, flat, recordOf, records, image, place, ordered}
 use Rattle.theory.proofs.ByteOrder.{insert-before, insert-behind, insert-comm}
 use Rattle.theory.proofs.Numbers.{num-back}
+use Rattle.theory.proofs.Unique.{Same, same-size}
 
 -- ------------------------------------------------------------------ image order
 -- the record of a tree
@@ -163,3 +165,25 @@ pub image-back : (f g : Forest Tag) → image f ≡ image g → ordered f ≡ or
 image-back f g e =
     let (es, er) = num-back (size (ordered f)) (size (ordered g)) (flat (records (ordered f))) (flat (records (ordered g))) (image-ordered f ∙ e ∙ sym (image-ordered g)) in
     (flat-back (ordered f) (ordered g) [] [] (sorted-ordered f) (sorted-ordered g) (inr es) (ap (λ l. l ++ []) er)) .0
+
+-- ------------------------------------------------------------------ the order of brothers leaves no trace
+records-cut : (P : Tag → Forest Tag → Type 0) (g : Forest Tag) (x : Any P g)
+    → (b : Tag) × (j : Forest Tag) × P b j × (records g ≡ insert (record1 b j) (records (cut P g x)))
+records-cut P bare x = absurd x
+records-cut P (tree b j r) (inl p) = (b, j, p, refl)
+records-cut P (tree b j r) (inr x) =
+    let (c, i, p, e) = records-cut P r x in (c, i, p, rw e (insert-comm (record1 b j) (record1 c i) (records (cut P r x))))
+
+pub same-records : (f g : Forest Tag) → Same f g → records f ≡ records g
+same-records bare bare s = refl
+same-records bare (tree b j r) s = absurd s
+same-records (tree a k r) g (x, s) =
+    let (b, j, p, e) = records-cut (λ b j. (a ≡ b) × Same k j) g x in
+    (λ i. insert (recordOf (p .0 i) (same-records k j (p .1) i)) (same-records r (cut (λ b j. (a ≡ b) × Same k j) g x) s i)) ∙ sym e
+
+-- trees that are the same up to the order of brothers have one image, and are one tree in image order
+pub same-image : (f g : Forest Tag) → Same f g → image f ≡ image g
+same-image f g s = rw (same-size f g s, same-records f g s)
+
+pub same-ordered : (f g : Forest Tag) → Same f g → ordered f ≡ ordered g
+same-ordered f g s = ordered-of-records f g (same-records f g s)
