@@ -7,6 +7,7 @@ pub mod Count
 pub mod Ways
 pub mod Limits
 pub mod Reread
+pub mod Accepted
 pub mod Folding
 pub mod Removal
 pub mod Minimal

@@ -105,15 +105,16 @@ more-back : (b : ℕ) (g : Got) (v k : ℕ) → more b g ≡ got v k → (w : �
 more-back b (got w j) v k e = (w, j, refl, cc, cc)
 more-back b broken v k e = let z : _≡_ {A = ℕ} 0 1 = cc in absurd (omega arith)
 
--- a number takes a byte or more
-pub groups-moves : (first : Bool) (bs : List ℕ) (v k : ℕ) → groups first bs ≡ got v k → 0 < k
+-- a number takes a byte or more, and no more than there are
+pub groups-length : (first : Bool) (bs : List ℕ) (v k : ℕ) → groups first bs ≡ got v k → (0 < k) × (k ≤ length bs)
 unfolding groups
-groups-moves first [] v k e = let z : _≡_ {A = ℕ} 0 1 = cc in absurd (omega arith)
-groups-moves first (b ∷ bs) v k e = go (ltb b 128) e
+groups-length first [] v k e = let z : _≡_ {A = ℕ} 0 1 = cc in absurd (omega arith)
+groups-length first (b ∷ bs) v k e = go (ltb b 128) e (groups-length false bs)
   where
-    go : (t : Bool) → cond t (lone first b) (more b (groups false bs)) ≡ got v k → 0 < k
-    go true e′ = omega (arith, (lone-back first b v k e′) .2)
-    go false e′ = omega (arith, (more-back b (groups false bs) v k e′) .4)
+    go : (t : Bool) → cond t (lone first b) (more b (groups false bs)) ≡ got v k
+        → ((w j : ℕ) → groups false bs ≡ got w j → (0 < j) × (j ≤ length bs)) → (0 < k) × (k ≤ suc (length bs))
+    go true e′ ih = let (h, ev, ek) = lone-back first b v k e′ in (omega arith, omega arith)
+    go false e′ ih = let (w, j, eg, ev, ek) = more-back b (groups false bs) v k e′ in let (p, q) = ih w j eg in (omega arith, omega arith)
 
 -- the bytes begin with v in its shortest writing, and k bytes were read
 record Written (first : Bool) (bs : List ℕ) (v k : ℕ) : Type 0 where
