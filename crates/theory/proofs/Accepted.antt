@@ -11,7 +11,7 @@ use borrow.Author.Tests.{ltb-true, ltb-false}
 use Rattle.meaning.specs.Expression.{Expr, steps}
 use Rattle.meaning.specs.Number.{Got, got, broken, readNumber, largestLabel, largestSign}
 use Rattle.meaning.specs.Word.{Outcome, refused, answered, andThen, Sign, operand, unary, binary, signOf, isStep, Pending, onOne, onTwo, counted, applied, takes, onlyOne, atEnd, onNumber, run, readWord}
-use Rattle.theory.proofs.Limits.{Small}
+use Rattle.theory.proofs.Limits.{InRange}
 use Rattle.theory.proofs.Reread.{LabelsIn, number-read, sign-label, step-label, pend}
 
 -- what is answered is so
@@ -25,7 +25,7 @@ stepsAll (e ∷ es) = steps e + stepsAll es
 
 abbrev LabelsAll : List Expr → Type 0
 LabelsAll [] = Unit {0}
-LabelsAll (e ∷ es) = LabelsIn Small e × LabelsAll es
+LabelsAll (e ∷ es) = LabelsIn InRange e × LabelsAll es
 
 -- the steps counted are those of the pending operands, and no more than 255; every label was read from a sign
 record Sound (st : Pending) : Type 0 where
@@ -35,9 +35,9 @@ record Sound (st : Pending) : Type 0 where
 
 -- an operand is a step if it is counted as one, and an operator keeps steps and labels
 abbrev SignOk : Sign → Bool → Type 0
-SignOk (operand e) b = (steps e ≡ cond b 1 0) × LabelsIn Small e
-SignOk (unary f) b = (e : Expr) → (steps (f e) ≡ steps e) × (LabelsIn Small e → LabelsIn Small (f e))
-SignOk (binary f) b = (d e : Expr) → (steps (f d e) ≡ steps d + steps e) × (LabelsIn Small d → LabelsIn Small e → LabelsIn Small (f d e))
+SignOk (operand e) b = (steps e ≡ cond b 1 0) × LabelsIn InRange e
+SignOk (unary f) b = (e : Expr) → (steps (f e) ≡ steps e) × (LabelsIn InRange e → LabelsIn InRange (f e))
+SignOk (binary f) b = (d e : Expr) → (steps (f d e) ≡ steps d + steps e) × (LabelsIn InRange d → LabelsIn InRange e → LabelsIn InRange (f d e))
 
 label-ok : (l : ℕ) → l ≤ largestLabel → SignOk (signOf (9 + l)) (isStep (9 + l))
 label-ok l le = rw (sign-label l, step-label l) (refl, le)
@@ -81,7 +81,7 @@ applied-sound (binary f) b st at ok h = go (st .operands) (h .count) (h .labels)
 
 -- the limits that an expression keeps
 abbrev Within : Expr → Type 0
-Within e = (steps e ≤ 255) × LabelsIn Small e
+Within e = (steps e ≤ 255) × LabelsIn InRange e
 
 end-within : (word : List ℕ) (st : Pending) → Sound st → Holds Within (atEnd word st)
 unfolding atEnd
@@ -113,11 +113,11 @@ run-within (suc k) word at st h = go (ltb at (length word)) (λ next u s. run-wi
     go false ih = end-within word st h
 
 -- an accepted word has at most 4,096 bytes, and its expression at most 255 steps and no label above 65,535
-pub accepted : (word : List ℕ) (e : Expr) → readWord word ≡ answered e → (steps e ≤ 255) × LabelsIn Small e × (length word ≤ 4096)
+pub accepted : (word : List ℕ) (e : Expr) → readWord word ≡ answered e → (steps e ≤ 255) × LabelsIn InRange e × (length word ≤ 4096)
 unfolding readWord
 accepted word e q = go (ltb 4096 (length word)) refl q
   where
-    go : (t : Bool) → ltb 4096 (length word) ≡ t → cond t (refused 1 4096) (run (length word) word 0 (pend [] 0)) ≡ answered e → (steps e ≤ 255) × LabelsIn Small e × (length word ≤ 4096)
+    go : (t : Bool) → ltb 4096 (length word) ≡ t → cond t (refused 1 4096) (run (length word) word 0 (pend [] 0)) ≡ answered e → (steps e ≤ 255) × LabelsIn InRange e × (length word ≤ 4096)
     go true b q′ = let z : _≡_ {A = ℕ} 0 1 = cc in absurd (omega arith)
     go false b q′ =
         let w : Holds Within (answered e) = subst (Holds Within) q′ (run-within (length word) word 0 (pend [] 0) (record { count = refl; few = omega arith; labels = tt })) in

@@ -1,9 +1,9 @@
 -- "Ascending byte order": it is a total order of byte strings, and a list in that order does not tell in which order it was filled.
-use mathlib.Core.Path.{_≡_, refl, sym, ap, _∙_}
+use mathlib.Core.Path.{_≡_, refl, _∙_}
 use mathlib.Core.Logic.{_⊎_, inl, inr}
 use mathlib.Core.List.{List, [], _∷_}
 use Prim.Native.Nat.{ℕ, _<_}
-use native.Mathlib.Decide.{ℕ-discrete, decLt}
+use native.Mathlib.Decide.{decLt}
 use native.Mathlib.Omega.{arith}
 use Rattle.meaning.specs.Basics.{pick}
 use Rattle.meaning.specs.Image.{LeL, decL, insert}
@@ -77,6 +77,18 @@ insert-comm x y (z ∷ l) = go (insert-comm x y l) (decL x z) (decL y z)
   where
     go : insert x (insert y l) ≡ insert y (insert x l) → Dec (LeL x z) → Dec (LeL y z) → insert x (insert y (z ∷ l)) ≡ insert y (insert x (z ∷ l))
     go ih (yes p) (yes q) = cc (insert-before x z l p, insert-before y z l q, insert-front x y (z ∷ l) (insert-before x z l p) (insert-before y z l q))
-    go ih (yes p) (no n) = cc (insert-before x z l p, insert-behind y z l n, insert-before x z (insert y l) p, insert-behind y x (z ∷ l) (λ q. n (le-trans y x z q p)))
-    go ih (no n) (yes q) = cc (insert-behind x z l n, insert-before y z l q, insert-before y z (insert x l) q, insert-behind x y (z ∷ l) (λ p. n (le-trans x y z p q)))
+    go ih (yes p) (no n) =
+        cc (
+          insert-before x z l p,
+          insert-behind y z l n,
+          insert-before x z (insert y l) p,
+          insert-behind y x (z ∷ l) (λ q. n (le-trans y x z q p)),
+        )
+    go ih (no n) (yes q) =
+        cc (
+          insert-behind x z l n,
+          insert-before y z l q,
+          insert-before y z (insert x l) q,
+          insert-behind x y (z ∷ l) (λ p. n (le-trans x y z p q)),
+        )
     go ih (no n) (no m) = cc (insert-behind x z l n, insert-behind y z l m, insert-behind x z (insert y l) n, insert-behind y z (insert x l) m)

@@ -1,20 +1,20 @@
 -- "At most 1,538 bytes", "The normal form has at most 2,048 bytes": how long images and normal forms get for a tree of at most 256 nodes
 -- whose labels are at most 65,535. A node takes at most 6 bytes of the image and at most 7 of the normal form.
-use mathlib.Core.Path.{_≡_, refl, sym, ap, _∙_}
+use mathlib.Core.Path.{_≡_, refl, ap}
 use mathlib.Core.Bool.{Bool, true, false, cond}
 use mathlib.Core.List.{List, [], _∷_, _++_, map}
-use Prim.Native.Nat.{ℕ, zero, suc, _+_, _*_, _≤_, _<_}
+use Prim.Native.Nat.{ℕ, suc, _+_, _*_, _≤_}
 use native.Mathlib.Omega.{arith}
 use lib.ListN.{length, length-append}
 use Rattle.meaning.specs.Basics.{pick}
-use Rattle.meaning.specs.Expression.{Expr, child, parent, label, comp, proj1, proj2}
+use Rattle.meaning.specs.Expression.{Expr, child, parent, comp}
 use Rattle.meaning.specs.TreeQuery.{Lab, any, lab}
 use Rattle.meaning.specs.Tree.{Forest, bare, tree, Tag, size}
 use Rattle.meaning.specs.Number.{num, largestLabel}
 use Rattle.meaning.specs.Image.{LeL, decL, insert, labCode, markCode, flat, recordOf, records, image}
 use Rattle.meaning.specs.Normal.{joined, all, labelled, branch, onward, chains, srcIn, dstIn, bothIn, eitherIn, someTree, off, ups, downs, aboveFactor, longer, around, factors, normal, wordOf}
 use Rattle.theory.proofs.Numbers.{num-short}
-use Rattle.theory.proofs.Count.{count, size-count}
+use Rattle.theory.proofs.Count.{size-count}
 use Rattle.theory.proofs.Ways.{on, aside, off-aside, count-ways, aside-either, on-dst}
 
 abbrev pub LabIn : (ℕ → Type 0) → Lab → Type 0
@@ -26,11 +26,11 @@ LabsIn P bare = Unit {0}
 LabsIn P (tree a k r) = LabIn P (a .lab) × LabsIn P k × LabsIn P r
 
 -- "Labels are 0 to 65,535"
-abbrev pub Small : ℕ → Type 0
-Small l = l ≤ largestLabel
+abbrev pub InRange : ℕ → Type 0
+InRange l = l ≤ largestLabel
 
 -- ------------------------------------------------------------------ images
-lab-short : (l : Lab) → LabIn Small l → length (num (labCode l)) ≤ 3
+lab-short : (l : Lab) → LabIn InRange l → length (num (labCode l)) ≤ 3
 lab-short any h = num-short 2 0 (omega arith)
 lab-short (lab l) h = num-short 2 (suc l) (omega arith)
 
@@ -58,7 +58,7 @@ few-records : (f : Forest Tag) → length (records f) ≤ size f
 few-records bare = omega arith
 few-records (tree a k r) = omega (arith, (insert-lengths (recordOf a (records k)) (records r)) .1, few-records r)
 
-records-short : (f : Forest Tag) → LabsIn Small f → size f ≤ 256 → length (flat (records f)) ≤ 6 * size f
+records-short : (f : Forest Tag) → LabsIn InRange f → size f ≤ 256 → length (flat (records f)) ≤ 6 * size f
 records-short bare h le = omega arith
 records-short (tree a k r) (h, hk, hr) le =
     omega (
@@ -73,7 +73,7 @@ records-short (tree a k r) (h, hk, hr) le =
     )
 
 -- "At most 1,538 bytes."
-pub image-short : (f : Forest Tag) → LabsIn Small f → size f ≤ 256 → length (image f) ≤ 1538
+pub image-short : (f : Forest Tag) → LabsIn InRange f → size f ≤ 256 → length (image f) ≤ 1538
 image-short f h le = omega (arith, records-short f h le, num-short 1 (size f) (omega arith), length-append (num (size f)) (flat (records f)))
 
 -- ------------------------------------------------------------------ normal forms
@@ -94,15 +94,15 @@ append-cost : (xs ys : List Expr) → cost (xs ++ ys) ≡ cost xs + cost ys
 append-cost [] ys = omega arith
 append-cost (x ∷ xs) ys = omega (arith, append-cost xs ys)
 
-labelled-cost : (l : Lab) (xs : List Expr) → LabIn Small l → cost (labelled l xs) ≤ 4 + cost xs
+labelled-cost : (l : Lab) (xs : List Expr) → LabIn InRange l → cost (labelled l xs) ≤ 4 + cost xs
 labelled-cost any xs h = omega arith
 labelled-cost (lab l) xs h = omega (arith, num-short 2 (9 + l) (omega arith))
 
-branch-cost : (l : Lab) (xs : List Expr) → LabIn Small l → length (wordOf (branch (child ∷ labelled l xs))) ≤ 6 + cost xs
+branch-cost : (l : Lab) (xs : List Expr) → LabIn InRange l → length (wordOf (branch (child ∷ labelled l xs))) ≤ 6 + cost xs
 branch-cost l xs h = omega (arith, joined-cost child (labelled l xs), labelled-cost l xs h, length-append (wordOf (all (child ∷ labelled l xs))) (5 ∷ []))
 
 -- the branches of a forest, and the way on below a node
-branches-cost : (j : Forest Tag) → LabsIn Small j → (cost (map branch (chains j)) ≤ 7 * size j) × (cost (onward (chains j)) ≤ 7 * size j)
+branches-cost : (j : Forest Tag) → LabsIn InRange j → (cost (map branch (chains j)) ≤ 7 * size j) × (cost (onward (chains j)) ≤ 7 * size j)
 branches-cost bare h = (omega arith, omega arith)
 branches-cost (tree b j r) (h, hj, hr) = (both (branches-cost j hj) (branches-cost r hr), go r (branches-cost j hj) (branches-cost r hr))
   where
@@ -119,23 +119,23 @@ branches-cost (tree b j r) (h, hj, hr) = (both (branches-cost j hj) (branches-co
 size-ways : (p : Tag → Forest Tag → Bool) (k : Forest Tag) → size k ≡ size (on p k) + size (aside p k)
 size-ways p k = omega (arith, count-ways (λ _. true) p k, size-count k, size-count (on p k), size-count (aside p k))
 
-aside-labs : (p : Tag → Forest Tag → Bool) (k : Forest Tag) → LabsIn Small k → LabsIn Small (aside p k)
+aside-labs : (p : Tag → Forest Tag → Bool) (k : Forest Tag) → LabsIn InRange k → LabsIn InRange (aside p k)
 aside-labs p bare h = tt
 aside-labs p (tree b j r) (h, hj, hr) = go (p b j) (aside-labs p r hr)
   where
-    go : (x : Bool) → LabsIn Small (aside p r) → LabsIn Small (cond x (aside p r) (tree b j (aside p r)))
+    go : (x : Bool) → LabsIn InRange (aside p r) → LabsIn InRange (cond x (aside p r) (tree b j (aside p r)))
     go true ih = ih
     go false ih = (h, hj, ih)
 
-off-cost : (p : Tag → Forest Tag → Bool) (k : Forest Tag) (l : List Expr) → LabsIn Small k → cost (off p k l) ≤ 7 * size (aside p k) + cost l
+off-cost : (p : Tag → Forest Tag → Bool) (k : Forest Tag) (l : List Expr) → LabsIn InRange k → cost (off p k l) ≤ 7 * size (aside p k) + cost l
 off-cost p k l h = rw (off-aside p k l) (omega (arith, append-cost (map branch (chains (aside p k))) l, (branches-cost (aside p k) (aside-labs p k h)) .0))
 
 -- a node on a way: its label, the branches off the way, and what follows
-own-cost : (p : Tag → Forest Tag → Bool) (b : Tag) (j : Forest Tag) (l : List Expr) → LabIn Small (b .lab) → LabsIn Small j
+own-cost : (p : Tag → Forest Tag → Bool) (b : Tag) (j : Forest Tag) (l : List Expr) → LabIn InRange (b .lab) → LabsIn InRange j
     → cost (labelled (b .lab) (off p j l)) ≤ 4 + 7 * size (aside p j) + cost l
 own-cost p b j l h hj = omega (arith, labelled-cost (b .lab) (off p j l) h, off-cost p j l hj)
 
-ups-cost : (k : Forest Tag) → LabsIn Small k → cost (ups k) ≤ 7 * size (on srcIn k)
+ups-cost : (k : Forest Tag) → LabsIn InRange k → cost (ups k) ≤ 7 * size (on srcIn k)
 ups-cost bare h = omega arith
 ups-cost (tree b j r) (h, hj, hr) = go (srcIn b j) (ups-cost j hj) (ups-cost r hr)
   where
@@ -144,7 +144,7 @@ ups-cost (tree b j r) (h, hj, hr) = go (srcIn b j) (ups-cost j hj) (ups-cost r h
     go true ij ir = omega (arith, append-cost (ups j) (labelled (b .lab) (off srcIn j (parent ∷ []))), own-cost srcIn b j (parent ∷ []) h hj, size-ways srcIn j)
     go false ij ir = ir
 
-downs-cost : (k : Forest Tag) → LabsIn Small k → cost (downs k) ≤ 7 * size (on dstIn k)
+downs-cost : (k : Forest Tag) → LabsIn InRange k → cost (downs k) ≤ 7 * size (on dstIn k)
 downs-cost bare h = omega arith
 downs-cost (tree b j r) (h, hj, hr) = go (dstIn b j) (downs-cost j hj) (downs-cost r hr)
   where
@@ -157,7 +157,7 @@ above-cost : (way l : List Expr) → cost (aboveFactor way l) ≤ suc (cost way)
 above-cost [] l = omega arith
 above-cost (x ∷ xs) l = omega (arith, joined-cost x xs, length-append (wordOf (joined x xs)) (6 ∷ []))
 
-around-cost : (way : List Expr) (a : Tag) (k : Forest Tag) → LabIn Small (a .lab) → LabsIn Small k → someTree bothIn k ≡ false
+around-cost : (way : List Expr) (a : Tag) (k : Forest Tag) → LabIn InRange (a .lab) → LabsIn InRange k → someTree bothIn k ≡ false
     → cost (around way a k) ≤ 5 + cost way + 7 * size k
 around-cost way a k h hk e =
     omega (
@@ -173,10 +173,10 @@ around-cost way a k h hk e =
       ap size (on-dst k e),
     )
 
-longer-cost : (way : List Expr) (a : Tag) (k : Forest Tag) → LabIn Small (a .lab) → LabsIn Small k → cost (longer way a k) ≤ 6 + cost way + 7 * size (aside bothIn k)
+longer-cost : (way : List Expr) (a : Tag) (k : Forest Tag) → LabIn InRange (a .lab) → LabsIn InRange k → cost (longer way a k) ≤ 6 + cost way + 7 * size (aside bothIn k)
 longer-cost way a k h hk = omega (arith, append-cost way (labelled (a .lab) (off bothIn k (child ∷ []))), own-cost bothIn a k (child ∷ []) h hk)
 
-factors-cost : (f : Forest Tag) (way : List Expr) → LabsIn Small f → cost (factors f way) ≤ suc (cost way) + 7 * size (on bothIn f)
+factors-cost : (f : Forest Tag) (way : List Expr) → LabsIn InRange f → cost (factors f way) ≤ suc (cost way) + 7 * size (on bothIn f)
 factors-cost bare way h = omega arith
 factors-cost (tree a k r) way (h, hk, hr) = go (bothIn a k) (someTree bothIn k) refl (factors-cost k (longer way a k) hk) (factors-cost r way hr)
   where
@@ -189,6 +189,6 @@ factors-cost (tree a k r) way (h, hk, hr) = go (bothIn a k) (someTree bothIn k) 
     go false y e ik ir = ir
 
 -- "The normal form has at most 2,048 bytes."
-pub form-short : (f : Forest Tag) → LabsIn Small f → size f ≤ 256 → length (wordOf (normal f)) ≤ 2048
+pub form-short : (f : Forest Tag) → LabsIn InRange f → size f ≤ 256 → length (wordOf (normal f)) ≤ 2048
 form-short bare h le = omega arith
 form-short (tree a k r) h le = omega (arith, all-cost (factors (tree a k r) []), factors-cost (tree a k r) [] h, size-ways bothIn (tree a k r))

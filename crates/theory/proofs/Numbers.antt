@@ -8,7 +8,6 @@ use native.Mathlib.Decide.{decLt}
 use native.Mathlib.Numerals.{add-one}
 use native.Mathlib.Omega.{arith}
 use lib.ListN.{length, drop}
-use lib.Seq.{drop-append-seam}
 use lib.Dec.{ltb, eqb}
 use borrow.Author.Tests.{lt-ltb, le-ltb, ne-eqb, ltb-true, ltb-false, eqb-false}
 use Rattle.meaning.specs.Basics.{pick}
@@ -42,7 +41,8 @@ numF-short : (f n g : ℕ) → n < reach g → length (numF f n) ≤ suc g
 numF-short zero n g lt = omega arith
 numF-short (suc f) n g lt = go g lt (decLt n 128) (numF-short f (n / 128))
   where
-    go : (g : ℕ) → n < reach g → Dec (n < 128) → ((h : ℕ) → n / 128 < reach h → length (numF f (n / 128)) ≤ suc h) → length (numF (suc f) n) ≤ suc g
+    go : (g : ℕ) → n < reach g → Dec (n < 128) → ((h : ℕ) → n / 128 < reach h → length (numF f (n / 128)) ≤ suc h)
+        → length (numF (suc f) n) ≤ suc g
     go g l (yes p) ih = rw (numF-one f n p) (omega arith)
     go zero l (no q) ih = absurd (q l)
     go (suc g) l (no q) ih = rw (numF-more f n (omega arith)) (let r = ih g (omega arith) in omega arith)
@@ -128,7 +128,8 @@ one-written first b bs lt h = record { ends = h; bytes = write }
     write zero l = absurd (omega arith)
     write (suc f) l = rw (numF-one f b lt)
 
-more-written : (first : Bool) (b : ℕ) (bs : List ℕ) (w j : ℕ) → b < 256 → 128 ≤ b → Written false bs w j → Written first (b ∷ bs) (b - 128 + 128 * w) (suc j)
+more-written : (first : Bool) (b : ℕ) (bs : List ℕ) (w j : ℕ) → b < 256 → 128 ≤ b → Written false bs w j
+    → Written first (b ∷ bs) (b - 128 + 128 * w) (suc j)
 more-written first b bs w j lt le h = record { ends = end first; bytes = write }
   where
     pos : 0 < w

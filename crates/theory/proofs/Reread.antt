@@ -1,21 +1,21 @@
 -- The word of an expression is read as that expression, wherever it stands and whatever is pending, as long as the limits are kept;
 -- and a word that is accepted kept them.
 use mathlib.Core.Path.{_≡_, refl, sym, ap, subst, _∙_}
-use mathlib.Core.Bool.{Bool, true, false, cond, _||_}
+use mathlib.Core.Bool.{Bool, true, false, cond}
 use mathlib.Core.List.{List, [], _∷_, _++_, append-nil, append-assoc}
 use Prim.Native.Nat.{ℕ, zero, suc, _+_, _-_, _≤_, _<_, max}
 use native.Mathlib.Omega.{arith}
 use native.Mathlib.Nat.{add-assoc}
-use lib.ListN.{length, getD, drop, length-drop, length-append, List·getD-eq-default}
+use lib.ListN.{length, drop, length-drop, length-append, List·getD-eq-default}
 use lib.Seq.{drop-append-seam, drop-drop}
-use lib.Dec.{ltb, leb, eqb}
+use lib.Dec.{ltb, leb}
 use borrow.Author.Tests.{lt-ltb, le-ltb, le-leb, ne-eqb, ltb-true, ltb-false, leb-true}
 use Rattle.meaning.specs.Expression.{Expr, empty, self, child, parent, label, comp, inter, proj1, proj2, inv, steps}
-use Rattle.meaning.specs.Number.{num, Got, got, broken, groups, notAbove, readNumber, largestLabel, largestSign}
-use Rattle.meaning.specs.Word.{Outcome, refused, answered, andThen, Sign, operand, unary, binary, signs, signOf, isStep, Pending, onOne, onTwo, counted, pushed, applied, takes, onlyOne, atEnd, onNumber, run, readWord}
+use Rattle.meaning.specs.Number.{num, Got, got, broken, groups, notAbove, readNumber, largestSign}
+use Rattle.meaning.specs.Word.{Outcome, refused, answered, andThen, operand, signs, signOf, isStep, Pending, applied, takes, atEnd, onNumber, run, readWord}
 use Rattle.meaning.specs.Normal.{wordOf}
 use Rattle.theory.proofs.Numbers.{num-one, read-num, groups-length}
-use Rattle.theory.proofs.Limits.{Small}
+use Rattle.theory.proofs.Limits.{InRange}
 
 abbrev pub need : Expr → ℕ
 need empty = 1
@@ -166,7 +166,7 @@ module _ (word : List ℕ) where
 
   -- ------------------------------------------------------------------ through the word of an expression
   -- the reader goes through the word of e, and e is pending then
-  pub run-word : (e : Expr) (es : List Expr) (k : ℕ) → LabelsIn Small e → k + steps e ≤ 255 → length es + need e ≤ 256
+  pub run-word : (e : Expr) (es : List Expr) (k : ℕ) → LabelsIn InRange e → k + steps e ≤ 255 → length es + need e ≤ 256
       → Through (wordOf e) (pend es k) (pend (e ∷ es) (k + steps e))
   unfolding takes signOf isStep
   run-word empty es k h s n = through-byte 0 (pend es k) (pend (empty ∷ es) (k + 0)) (omega arith) (λ at. push empty false es at k refl s (omega arith))
@@ -181,7 +181,7 @@ module _ (word : List ℕ) where
   run-word (inv e) es k h s n = through-unary inv 8 e es k (k + steps e) (omega arith) (λ at. refl) (run-word e es k h s n)
 
 -- the word of an expression is accepted as that expression
-pub read-word : (e : Expr) → LabelsIn Small e → steps e ≤ 255 → need e ≤ 256 → length (wordOf e) ≤ 4096 → readWord (wordOf e) ≡ answered e
+pub read-word : (e : Expr) → LabelsIn InRange e → steps e ≤ 255 → need e ≤ 256 → length (wordOf e) ≤ 4096 → readWord (wordOf e) ≡ answered e
 unfolding readWord atEnd
 read-word e h s n l =
     rw (le-ltb 4096 (length (wordOf e)) l)
