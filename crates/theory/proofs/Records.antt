@@ -1,5 +1,5 @@
--- Records can be read back: "No record is the beginning of another", so equal images are images of one tree up to the order of brothers,
--- and in image order they are images of one tree. Image order changes neither records nor image.
+-- Records can be read back: no record is the beginning of another. So trees with one image are one tree, "the children's records in ascending
+-- byte order", and trees that are the same up to the order of brothers have one image. Image order changes neither records nor image.
 use mathlib.Core.Path.{_≡_, refl, sym, ap, _∙_}
 use mathlib.Core.Logic.{_⊎_, inl, inr}
 use mathlib.Core.Bool.{Bool, true, false}
@@ -19,23 +19,23 @@ use Rattle.theory.proofs.Unique.{Same, same-size}
 
 -- ------------------------------------------------------------------ image order
 -- the record of a tree
-abbrev pub record1 : Tag → Forest Tag → List ℕ
-record1 a k = recordOf a (records k)
+abbrev pub recordAt : Tag → Forest Tag → List ℕ
+recordAt a k = recordOf a (records k)
 
-records-place : (a : Tag) (k r : Forest Tag) → records (place a k r) ≡ insert (record1 a k) (records r)
+records-place : (a : Tag) (k r : Forest Tag) → records (place a k r) ≡ insert (recordAt a k) (records r)
 records-place a k bare = refl
-records-place a k (tree b j r) = go (decL (record1 a k) (record1 b j)) (records-place a k r)
+records-place a k (tree b j r) = go (decL (recordAt a k) (recordAt b j)) (records-place a k r)
   where
-    go : (d : Dec (LeL (record1 a k) (record1 b j))) → records (place a k r) ≡ insert (record1 a k) (records r)
-        → records (pick d (tree a k (tree b j r)) (tree b j (place a k r))) ≡ insert (record1 a k) (insert (record1 b j) (records r))
+    go : (d : Dec (LeL (recordAt a k) (recordAt b j))) → records (place a k r) ≡ insert (recordAt a k) (records r)
+        → records (pick d (tree a k (tree b j r)) (tree b j (place a k r))) ≡ insert (recordAt a k) (insert (recordAt b j) (records r))
     go (yes p) ih = refl
-    go (no n) ih = rw ih (insert-comm (record1 b j) (record1 a k) (records r))
+    go (no n) ih = rw ih (insert-comm (recordAt b j) (recordAt a k) (records r))
 
 size-place : (a : Tag) (k r : Forest Tag) → size (place a k r) ≡ suc (size k + size r)
 size-place a k bare = refl
-size-place a k (tree b j r) = go (decL (record1 a k) (record1 b j)) (size-place a k r)
+size-place a k (tree b j r) = go (decL (recordAt a k) (recordAt b j)) (size-place a k r)
   where
-    go : (d : Dec (LeL (record1 a k) (record1 b j))) → size (place a k r) ≡ suc (size k + size r)
+    go : (d : Dec (LeL (recordAt a k) (recordAt b j))) → size (place a k r) ≡ suc (size k + size r)
         → size (pick d (tree a k (tree b j r)) (tree b j (place a k r))) ≡ suc (size k + suc (size j + size r))
     go (yes p) ih = refl
     go (no n) ih = omega arith
@@ -54,19 +54,19 @@ image-ordered f = rw (size-ordered f, records-ordered f)
 -- the brothers are in image order, here and below: each record goes in front of the later ones
 abbrev pub Sorted : Forest Tag → Type 0
 Sorted bare = Unit {0}
-Sorted (tree a k r) = (insert (record1 a k) (records r) ≡ record1 a k ∷ records r) × Sorted k × Sorted r
+Sorted (tree a k r) = (insert (recordAt a k) (records r) ≡ recordAt a k ∷ records r) × Sorted k × Sorted r
 
 sorted-place : (a : Tag) (k r : Forest Tag) → Sorted k → Sorted r → Sorted (place a k r)
 sorted-place a k bare sk sr = (refl, sk, tt)
-sorted-place a k (tree b j r) sk (e, sj, sr) = go (decL (record1 a k) (record1 b j)) (sorted-place a k r sk sr)
+sorted-place a k (tree b j r) sk (e, sj, sr) = go (decL (recordAt a k) (recordAt b j)) (sorted-place a k r sk sr)
   where
-    go : (d : Dec (LeL (record1 a k) (record1 b j))) → Sorted (place a k r) → Sorted (pick d (tree a k (tree b j r)) (tree b j (place a k r)))
-    go (yes p) ih = (cc (insert-before (record1 a k) (record1 b j) (records r) p), sk, (e, sj, sr))
+    go : (d : Dec (LeL (recordAt a k) (recordAt b j))) → Sorted (place a k r) → Sorted (pick d (tree a k (tree b j r)) (tree b j (place a k r)))
+    go (yes p) ih = (cc (insert-before (recordAt a k) (recordAt b j) (records r) p), sk, (e, sj, sr))
     go (no n) ih = (
       cc (
         records-place a k r,
-        insert-comm (record1 b j) (record1 a k) (records r),
-        insert-behind (record1 a k) (record1 b j) (records r) n,
+        insert-comm (recordAt b j) (recordAt a k) (records r),
+        insert-behind (recordAt a k) (recordAt b j) (records r) n,
       ),
       sj,
       ih,
@@ -107,18 +107,23 @@ tag-back a b el em = λ i. record { lab = l i; src = (m i) .0; dst = (m i) .1 }
     m : _≡_ {A = Bool × Bool} (a .src, a .dst) (b .src, b .dst)
     m = sym (marks-from (a .src) (a .dst)) ∙ ap marksFrom em ∙ marks-from (b .src) (b .dst)
 
--- three numbers written alike
-three-back : (l m n l′ m′ n′ : ℕ) (x y : List ℕ) → num l ++ (num m ++ (num n ++ x)) ≡ num l′ ++ (num m′ ++ (num n′ ++ y)) → (l ≡ l′) × (m ≡ m′) × (n ≡ n′) × (x ≡ y)
-three-back l m n l′ m′ n′ x y e =
-    let p = num-back l l′ (num m ++ (num n ++ x)) (num m′ ++ (num n′ ++ y)) e in
-    let q = num-back m m′ (num n ++ x) (num n′ ++ y) (p .1) in
-    let r = num-back n n′ x y (q .1) in
-    (p .0, q .0, r .0, r .1)
+-- the three numbers that a record begins with, and what follows them
+abbrev headed : Tag → ℕ → List ℕ → List ℕ
+headed a n x = num (labCode (a .lab)) ++ (num (markCode (a .src) (a .dst)) ++ (num n ++ x))
 
--- the bytes of brothers in image order begin with the first one's numbers
-first-numbers : (a : Tag) (k r : Forest Tag) (x : List ℕ) → Sorted (tree a k r)
-    → flat (records (tree a k r)) ++ x ≡ num (labCode (a .lab)) ++ (num (markCode (a .src) (a .dst)) ++ (num (length (records k)) ++ (flat (records k) ++ (flat (records r) ++ x))))
-first-numbers a k r x (e, sk, sr) = rw e (simp append-assoc)
+headed-back : (a b : Tag) (m n : ℕ) (x y : List ℕ) → headed a m x ≡ headed b n y → (a ≡ b) × (m ≡ n) × (x ≡ y)
+headed-back a b m n x y e =
+    let ma = markCode (a .src) (a .dst) in
+    let mb = markCode (b .src) (b .dst) in
+    let (el, e₁) = num-back (labCode (a .lab)) (labCode (b .lab)) (num ma ++ (num m ++ x)) (num mb ++ (num n ++ y)) e in
+    let (em, e₂) = num-back ma mb (num m ++ x) (num n ++ y) e₁ in
+    let (en, e₃) = num-back m n x y e₂ in
+    (tag-back a b el em, en, e₃)
+
+-- the bytes of brothers in image order begin with the record of the first
+first-headed : (a : Tag) (k r : Forest Tag) (x : List ℕ) → Sorted (tree a k r)
+    → flat (records (tree a k r)) ++ x ≡ headed a (length (records k)) (flat (records k) ++ (flat (records r) ++ x))
+first-headed a k r x (e, sk, sr) = rw e (simp append-assoc)
 
 -- what is known of two lists of brothers beforehand: as many trees, or as many nodes
 abbrev Alike : Forest Tag → Forest Tag → Type 0
@@ -128,7 +133,8 @@ not-alike : (b : Tag) (j s : Forest Tag) → Sorted (tree b j s) → ¬ Alike (t
 not-alike b j s (e, sj, ss) (inl l) = let z = ap length e in omega arith
 not-alike b j s (e, sj, ss) (inr l) = omega arith
 
-alike-rest : (a : Tag) (k r : Forest Tag) (b : Tag) (j s : Forest Tag) → Sorted (tree a k r) → Sorted (tree b j s) → k ≡ j → Alike (tree a k r) (tree b j s) → Alike r s
+alike-rest : (a : Tag) (k r : Forest Tag) (b : Tag) (j s : Forest Tag) → Sorted (tree a k r) → Sorted (tree b j s) → k ≡ j
+    → Alike (tree a k r) (tree b j s) → Alike r s
 alike-rest a k r b j s (e, sk, sr) (e′, sj, ss) ek (inl l) = let z = ap length e in let z′ = ap length e′ in inl (omega arith)
 alike-rest a k r b j s sf sg ek (inr l) = let z = ap size ek in inr (omega arith)
 
@@ -136,18 +142,19 @@ alike-sym : (f g : Forest Tag) → Alike f g → Alike g f
 alike-sym f g (inl l) = inl (sym l)
 alike-sym f g (inr l) = inr (sym l)
 
+-- no record is the beginning of another: brothers in image order are read back from their bytes, whatever follows
 flat-back : (f g : Forest Tag) (x y : List ℕ) → Sorted f → Sorted g → Alike f g → flat (records f) ++ x ≡ flat (records g) ++ y → (f ≡ g) × (x ≡ y)
 flat-back bare bare x y sf sg l e = (refl, e)
 flat-back bare (tree b j s) x y sf sg l e = absurd (not-alike b j s sg (alike-sym bare (tree b j s) l))
 flat-back (tree a k r) bare x y sf sg l e = absurd (not-alike a k r sf l)
 flat-back (tree a k r) (tree b j s) x y sf sg l e =
-    let (el, em, en, ez) =
-    three-back (labCode (a .lab)) (markCode (a .src) (a .dst)) (length (records k)) (labCode (b .lab)) (markCode (b .src) (b .dst)) (length (records j))
-    (flat (records k) ++ (flat (records r) ++ x)) (flat (records j) ++ (flat (records s) ++ y))
-    (sym (first-numbers a k r x sf) ∙ e ∙ first-numbers b j s y sg) in
-    let (ek, ey) = flat-back k j (flat (records r) ++ x) (flat (records s) ++ y) (sf .1) (sg .1) (inl en) ez in
+    let x′ = flat (records r) ++ x in
+    let y′ = flat (records s) ++ y in
+    let e′ = sym (first-headed a k r x sf) ∙ e ∙ first-headed b j s y sg in
+    let (ea, en, ez) = headed-back a b (length (records k)) (length (records j)) (flat (records k) ++ x′) (flat (records j) ++ y′) e′ in
+    let (ek, ey) = flat-back k j x′ y′ (sf .1) (sg .1) (inl en) ez in
     let (er, ex) = flat-back r s x y (sf .2) (sg .2) (alike-rest a k r b j s sf sg ek l) ey in
-    ((λ i. tree (tag-back a b el em i) (ek i) (er i)), ex)
+    ((λ i. tree (ea i) (ek i) (er i)), ex)
 
 -- equal records of two forests in image order are records of one forest
 pub records-back : (f g : Forest Tag) → Sorted f → Sorted g → records f ≡ records g → f ≡ g
@@ -163,16 +170,18 @@ ordered-twice f = ordered-of-records (ordered f) f (records-ordered f)
 -- an image is the image of one tree, up to the order of brothers
 pub image-back : (f g : Forest Tag) → image f ≡ image g → ordered f ≡ ordered g
 image-back f g e =
-    let (es, er) = num-back (size (ordered f)) (size (ordered g)) (flat (records (ordered f))) (flat (records (ordered g))) (image-ordered f ∙ e ∙ sym (image-ordered g)) in
-    (flat-back (ordered f) (ordered g) [] [] (sorted-ordered f) (sorted-ordered g) (inr es) (ap (λ l. l ++ []) er)) .0
+    let f′ = ordered f in
+    let g′ = ordered g in
+    let (es, er) = num-back (size f′) (size g′) (flat (records f′)) (flat (records g′)) (image-ordered f ∙ e ∙ sym (image-ordered g)) in
+    (flat-back f′ g′ [] [] (sorted-ordered f) (sorted-ordered g) (inr es) (ap (λ l. l ++ []) er)) .0
 
 -- ------------------------------------------------------------------ the order of brothers leaves no trace
 records-cut : (P : Tag → Forest Tag → Type 0) (g : Forest Tag) (x : Any P g)
-    → (b : Tag) × (j : Forest Tag) × P b j × (records g ≡ insert (record1 b j) (records (cut P g x)))
+    → (b : Tag) × (j : Forest Tag) × P b j × (records g ≡ insert (recordAt b j) (records (cut P g x)))
 records-cut P bare x = absurd x
 records-cut P (tree b j r) (inl p) = (b, j, p, refl)
 records-cut P (tree b j r) (inr x) =
-    let (c, i, p, e) = records-cut P r x in (c, i, p, rw e (insert-comm (record1 b j) (record1 c i) (records (cut P r x))))
+    let (c, i, p, e) = records-cut P r x in (c, i, p, rw e (insert-comm (recordAt b j) (recordAt c i) (records (cut P r x))))
 
 pub same-records : (f g : Forest Tag) → Same f g → records f ≡ records g
 same-records bare bare s = refl
