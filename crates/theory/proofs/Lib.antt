@@ -2,3 +2,4 @@
 pub mod Cases
 pub mod Count
 pub mod Ways
+pub mod Normal
