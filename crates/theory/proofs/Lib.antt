@@ -3,3 +3,4 @@ pub mod Cases
 pub mod Count
 pub mod Ways
 pub mod Normal
+pub mod Steps

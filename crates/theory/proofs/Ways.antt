@@ -9,9 +9,9 @@ use Prim.Native.Nat.{ℕ, _+_, _≤_}
 use native.Mathlib.Omega.{arith}
 use Rattle.meaning.specs.Document.{Doc}
 use Rattle.meaning.specs.Expression.{Expr, child}
-use Rattle.meaning.specs.Tree.{Forest, bare, tree, Tag, Lays}
+use Rattle.meaning.specs.Tree.{Forest, bare, tree, Tag, size, Lays}
 use Rattle.meaning.specs.Normal.{labelled, branch, onward, chains, inTree, srcIn, dstIn, bothIn, eitherIn, someTree, off}
-use Rattle.theory.proofs.Count.{bit, count, src, dst, marks, Tells, in-tells}
+use Rattle.theory.proofs.Count.{bit, count, src, dst, marks, size-count, Tells, in-tells}
 
 -- the trees that are so
 abbrev pub on : (Tag → Forest Tag → Bool) → Forest Tag → Forest Tag
@@ -44,6 +44,11 @@ count-ways q p (tree b j r) = go (p b j) (count-ways q p r)
         → count q (tree b j r) ≡ count q (cond x (tree b j (on p r)) (on p r)) + count q (cond x (aside p r) (tree b j (aside p r)))
     go true ih = omega arith
     go false ih = omega arith
+
+pub size-ways : (p : Tag → Forest Tag → Bool) (k : Forest Tag) → size k ≡ size (on p k) + size (aside p k)
+size-ways p k =
+    let x = size-count k in let y = size-count (on p k) in let z = size-count (aside p k) in
+    let w = count-ways (λ _. true) p k in omega arith
 
 pub lays-ways : (D : Doc) (On : Tag → ℕ → Type 0) (p : Tag → Forest Tag → Bool) (k : Forest Tag) (v : Option ℕ)
     → Lays D On k v ↔ (Lays D On (on p k) v × Lays D On (aside p k) v)
