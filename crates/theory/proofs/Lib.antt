@@ -4,6 +4,8 @@ pub mod ByteOrder
 pub mod Numbers
 pub mod Records
 pub mod Count
+pub mod Labels
+pub mod Order
 pub mod Ways
 pub mod Limits
 pub mod Reread
@@ -12,3 +14,7 @@ pub mod Folding
 pub mod Removal
 pub mod Minimal
 pub mod Unique
+pub mod Normal
+pub mod Steps
+pub mod Factors
+pub mod Operands
