@@ -11,8 +11,10 @@ use borrow.Author.Tests.{ltb-true, ltb-false}
 use Rattle.meaning.specs.Expression.{Expr, steps}
 use Rattle.meaning.specs.Number.{Got, got, broken, readNumber, largestLabel, largestSign}
 use Rattle.meaning.specs.Word.{Outcome, refused, answered, andThen, Sign, operand, unary, binary, signOf, isStep, Pending, onOne, onTwo, counted, applied, takes, onlyOne, atEnd, onNumber, run, readWord}
+use Rattle.theory.proofs.Labels.{LabelsIn}
+use Rattle.theory.proofs.Factors.{Each}
 use Rattle.theory.proofs.Limits.{InRange}
-use Rattle.theory.proofs.Reread.{LabelsIn, number-read, sign-label, step-label, pend}
+use Rattle.theory.proofs.Reread.{number-read, sign-label, step-label, pend}
 
 -- what is answered is so
 abbrev Holds : {A : Type 0} → (A → Type 0) → Outcome A → Type 0
@@ -23,15 +25,11 @@ abbrev stepsAll : List Expr → ℕ
 stepsAll [] = 0
 stepsAll (e ∷ es) = steps e + stepsAll es
 
-abbrev LabelsAll : List Expr → Type 0
-LabelsAll [] = Unit {0}
-LabelsAll (e ∷ es) = LabelsIn InRange e × LabelsAll es
-
 -- the steps counted are those of the pending operands, and no more than 255; every label was read from a sign
 record Sound (st : Pending) : Type 0 where
   count : stepsAll (st .operands) ≡ st .steps
   few : st .steps ≤ 255
-  labels : LabelsAll (st .operands)
+  labels : Each (LabelsIn InRange) (st .operands)
 
 -- an operand is a step if it is counted as one, and an operator keeps steps and labels
 abbrev SignOk : Sign → Bool → Type 0
@@ -69,12 +67,12 @@ applied-sound (operand e) b st at (q, l) h = go (ltb (length (st .operands)) 256
     go false = tt
 applied-sound (unary f) b st at ok h = go (st .operands) (h .count) (h .labels)
   where
-    go : (es : List Expr) → stepsAll es ≡ st .steps → LabelsAll es → Holds Sound (onOne f es at (st .steps))
+    go : (es : List Expr) → stepsAll es ≡ st .steps → Each (LabelsIn InRange) es → Holds Sound (onOne f es at (st .steps))
     go [] c l = tt
     go (e ∷ es) c (le, ls) = record { count = omega (arith, (ok e) .0); few = h .few; labels = ((ok e) .1 le, ls) }
 applied-sound (binary f) b st at ok h = go (st .operands) (h .count) (h .labels)
   where
-    go : (es : List Expr) → stepsAll es ≡ st .steps → LabelsAll es → Holds Sound (onTwo f es at (st .steps))
+    go : (es : List Expr) → stepsAll es ≡ st .steps → Each (LabelsIn InRange) es → Holds Sound (onTwo f es at (st .steps))
     go [] c l = tt
     go (e ∷ []) c l = tt
     go (e ∷ (d ∷ es)) c (le, (ld, ls)) = record { count = omega (arith, (ok d e) .0); few = h .few; labels = ((ok d e) .1 ld le, ls) }
@@ -87,7 +85,7 @@ end-within : (word : List ℕ) (st : Pending) → Sound st → Holds Within (atE
 unfolding atEnd
 end-within word st h = go (st .operands) (h .count) (h .labels)
   where
-    go : (es : List Expr) → stepsAll es ≡ st .steps → LabelsAll es → Holds Within (onlyOne es (length word))
+    go : (es : List Expr) → stepsAll es ≡ st .steps → Each (LabelsIn InRange) es → Holds Within (onlyOne es (length word))
     go [] c l = tt
     go (e ∷ []) c (le, ls) = (omega (arith, h .few), le)
     go (e ∷ (d ∷ es)) c l = tt

@@ -15,15 +15,8 @@ use Rattle.meaning.specs.Image.{LeL, decL, insert, labCode, markCode, flat, rec
 use Rattle.meaning.specs.Normal.{joined, all, labelled, branch, onward, chains, srcIn, dstIn, bothIn, eitherIn, someTree, off, ups, downs, aboveFactor, longer, around, factors, normal, wordOf}
 use Rattle.theory.proofs.Numbers.{num-short}
 use Rattle.theory.proofs.Count.{size-count}
+use Rattle.theory.proofs.Labels.{LabIn, LabsIn}
 use Rattle.theory.proofs.Ways.{on, aside, off-aside, count-ways, aside-either, on-dst}
-
-abbrev pub LabIn : (ℕ → Type 0) → Lab → Type 0
-LabIn P any = Unit {0}
-LabIn P (lab l) = P l
-
-abbrev pub LabsIn : (ℕ → Type 0) → Forest Tag → Type 0
-LabsIn P bare = Unit {0}
-LabsIn P (tree a k r) = LabIn P (a .lab) × LabsIn P k × LabsIn P r
 
 -- "Labels are 0 to 65,535"
 abbrev pub InRange : ℕ → Type 0

@@ -15,6 +15,7 @@ use Rattle.meaning.specs.Number.{num}
 use Rattle.meaning.specs.Image.{LeL, decL, insert, labCode, markCode, flat, recordOf, records, image, place, ordered}
 use Rattle.theory.proofs.ByteOrder.{insert-before, insert-behind, insert-comm}
 use Rattle.theory.proofs.Numbers.{num-back}
+use Rattle.theory.proofs.Order.{ordered-size}
 use Rattle.theory.proofs.Unique.{Same, same-size}
 
 -- ------------------------------------------------------------------ image order
@@ -31,25 +32,12 @@ records-place a k (tree b j r) = go (decL (recordAt a k) (recordAt b j)) (record
     go (yes p) ih = refl
     go (no n) ih = rw ih (insert-comm (recordAt b j) (recordAt a k) (records r))
 
-size-place : (a : Tag) (k r : Forest Tag) → size (place a k r) ≡ suc (size k + size r)
-size-place a k bare = refl
-size-place a k (tree b j r) = go (decL (recordAt a k) (recordAt b j)) (size-place a k r)
-  where
-    go : (d : Dec (LeL (recordAt a k) (recordAt b j))) → size (place a k r) ≡ suc (size k + size r)
-        → size (pick d (tree a k (tree b j r)) (tree b j (place a k r))) ≡ suc (size k + suc (size j + size r))
-    go (yes p) ih = refl
-    go (no n) ih = omega arith
-
 pub records-ordered : (f : Forest Tag) → records (ordered f) ≡ records f
 records-ordered bare = refl
 records-ordered (tree a k r) = rw (records-place a (ordered k) (ordered r), records-ordered k, records-ordered r)
 
-pub size-ordered : (f : Forest Tag) → size (ordered f) ≡ size f
-size-ordered bare = refl
-size-ordered (tree a k r) = rw (size-place a (ordered k) (ordered r), size-ordered k, size-ordered r)
-
 pub image-ordered : (f : Forest Tag) → image (ordered f) ≡ image f
-image-ordered f = rw (size-ordered f, records-ordered f)
+image-ordered f = rw (ordered-size f, records-ordered f)
 
 -- the brothers are in image order, here and below: each record goes in front of the later ones
 abbrev pub Sorted : Forest Tag → Type 0

@@ -3,7 +3,7 @@
 use mathlib.Core.Path.{_≡_, refl, sym, ap, subst, _∙_}
 use mathlib.Core.Bool.{Bool, true, false, cond}
 use mathlib.Core.List.{List, [], _∷_, _++_, append-nil, append-assoc}
-use Prim.Native.Nat.{ℕ, zero, suc, _+_, _-_, _≤_, _<_, max}
+use Prim.Native.Nat.{ℕ, zero, suc, _+_, _-_, _≤_, _<_}
 use native.Mathlib.Omega.{arith}
 use native.Mathlib.Nat.{add-assoc}
 use lib.ListN.{length, drop, length-drop, length-append, List·getD-eq-default}
@@ -15,31 +15,9 @@ use Rattle.meaning.specs.Number.{num, Got, got, broken, groups, notAbove, readN
 use Rattle.meaning.specs.Word.{Outcome, refused, answered, andThen, operand, signs, signOf, isStep, Pending, applied, takes, atEnd, onNumber, run, readWord}
 use Rattle.meaning.specs.Normal.{wordOf}
 use Rattle.theory.proofs.Numbers.{num-one, read-num, groups-length}
+use Rattle.theory.proofs.Labels.{LabelsIn}
+use Rattle.theory.proofs.Operands.{need}
 use Rattle.theory.proofs.Limits.{InRange}
-
-abbrev pub need : Expr → ℕ
-need empty = 1
-need self = 1
-need child = 1
-need parent = 1
-need (label l) = 1
-need (comp e f) = max (need e) (suc (need f))
-need (inter e f) = max (need e) (suc (need f))
-need (proj1 e) = need e
-need (proj2 e) = need e
-need (inv e) = need e
-
-abbrev pub LabelsIn : (ℕ → Type 0) → Expr → Type 0
-LabelsIn P empty = Unit {0}
-LabelsIn P self = Unit {0}
-LabelsIn P child = Unit {0}
-LabelsIn P parent = Unit {0}
-LabelsIn P (label l) = P l
-LabelsIn P (comp e f) = LabelsIn P e × LabelsIn P f
-LabelsIn P (inter e f) = LabelsIn P e × LabelsIn P f
-LabelsIn P (proj1 e) = LabelsIn P e
-LabelsIn P (proj2 e) = LabelsIn P e
-LabelsIn P (inv e) = LabelsIn P e
 
 -- ------------------------------------------------------------------ a number at a place
 notAbove-back : (top : ℕ) (g : Got) (v n : ℕ) → notAbove top g ≡ got v n → (g ≡ got v n) × (v ≤ top)
