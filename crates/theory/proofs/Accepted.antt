@@ -52,14 +52,16 @@ sign-ok (suc (suc (suc (suc (suc (suc zero)))))) le = λ e. (refl, λ h. h)
 sign-ok (suc (suc (suc (suc (suc (suc (suc zero))))))) le = λ d e. (refl, λ h g. (h, g))
 sign-ok (suc (suc (suc (suc (suc (suc (suc (suc zero)))))))) le = λ e. (refl, λ h. h)
 sign-ok (suc (suc (suc (suc (suc (suc (suc (suc (suc l))))))))) le =
-    subst (λ n. SignOk (signOf n) (isStep n)) (let e : 9 + l ≡ suc (suc (suc (suc (suc (suc (suc (suc (suc l)))))))) = omega arith in e) (label-ok l (omega arith))
+    let e : 9 + l ≡ suc (suc (suc (suc (suc (suc (suc (suc (suc l)))))))) = omega arith in
+    subst (λ n. SignOk (signOf n) (isStep n)) e (label-ok l (omega arith))
 
 applied-sound : (s : Sign) (b : Bool) (st : Pending) (at : ℕ) → SignOk s b → Sound st → Holds Sound (applied s b st at)
 applied-sound (operand e) b st at (q, l) h = go (ltb (length (st .operands)) 256)
   where
     next : (b : Bool) (t : Bool) → steps e ≡ cond b 1 0 → ltb (st .steps) 255 ≡ t → Holds Sound (counted b e (st .operands) at (st .steps))
     next false t q′ lt = record { count = omega (arith, h .count); few = h .few; labels = (l, h .labels) }
-    next true true q′ lt = rw lt (record { count = omega (arith, h .count); few = omega (arith, ltb-true (st .steps) 255 lt); labels = (l, h .labels) })
+    next true true q′ lt =
+        rw lt (record { count = omega (arith, h .count); few = omega (arith, ltb-true (st .steps) 255 lt); labels = (l, h .labels) })
     next true false q′ lt = rw lt tt
 
     go : (t : Bool) → Holds Sound (cond t (counted b e (st .operands) at (st .steps)) (refused 4 at))
@@ -115,8 +117,10 @@ pub accepted : (word : List ℕ) (e : Expr) → readWord word ≡ answered e →
 unfolding readWord
 accepted word e q = go (ltb 4096 (length word)) refl q
   where
-    go : (t : Bool) → ltb 4096 (length word) ≡ t → cond t (refused 1 4096) (run (length word) word 0 (pend [] 0)) ≡ answered e → (steps e ≤ 255) × LabelsIn InRange e × (length word ≤ 4096)
+    go : (t : Bool) → ltb 4096 (length word) ≡ t → cond t (refused 1 4096) (run (length word) word 0 (pend [] 0)) ≡ answered e
+        → (steps e ≤ 255) × LabelsIn InRange e × (length word ≤ 4096)
     go true b q′ = let z : _≡_ {A = ℕ} 0 1 = cc in absurd (omega arith)
     go false b q′ =
-        let w : Holds Within (answered e) = subst (Holds Within) q′ (run-within (length word) word 0 (pend [] 0) (record { count = refl; few = omega arith; labels = tt })) in
+        let s : Sound (pend [] 0) = record { count = refl; few = omega arith; labels = tt } in
+        let w : Holds Within (answered e) = subst (Holds Within) q′ (run-within (length word) word 0 (pend [] 0) s) in
         (w .0, w .1, ltb-false 4096 (length word) b)

@@ -76,7 +76,9 @@ insert-comm x y [] = insert-front x y [] refl refl
 insert-comm x y (z ∷ l) = go (insert-comm x y l) (decL x z) (decL y z)
   where
     go : insert x (insert y l) ≡ insert y (insert x l) → Dec (LeL x z) → Dec (LeL y z) → insert x (insert y (z ∷ l)) ≡ insert y (insert x (z ∷ l))
-    go ih (yes p) (yes q) = cc (insert-before x z l p, insert-before y z l q, insert-front x y (z ∷ l) (insert-before x z l p) (insert-before y z l q))
+    go ih (yes p) (yes q) =
+        let bx = insert-before x z l p in
+        let by = insert-before y z l q in cc (insert-front x y (z ∷ l) bx by)
     go ih (yes p) (no n) =
         cc (
           insert-before x z l p,

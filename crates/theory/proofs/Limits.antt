@@ -42,8 +42,10 @@ insert-lengths : (r : List ℕ) (l : List (List ℕ)) → (length (flat (insert 
 insert-lengths r [] = (length-append r [], refl)
 insert-lengths r (s ∷ l) = go (decL r s) (insert-lengths r l)
   where
-    go : (d : Dec (LeL r s)) → (length (flat (insert r l)) ≡ length r + length (flat l)) × (length (insert r l) ≡ suc (length l))
-        → (length (flat (pick d (r ∷ (s ∷ l)) (s ∷ insert r l))) ≡ length r + length (flat (s ∷ l))) × (length (pick d (r ∷ (s ∷ l)) (s ∷ insert r l)) ≡ suc (length (s ∷ l)))
+    Longer : List (List ℕ) → List (List ℕ) → Type 0
+    Longer i l = (length (flat i) ≡ length r + length (flat l)) × (length i ≡ suc (length l))
+
+    go : (d : Dec (LeL r s)) → Longer (insert r l) l → Longer (pick d (r ∷ (s ∷ l)) (s ∷ insert r l)) (s ∷ l)
     go (yes p) ih = (length-append r (s ++ flat l), refl)
     go (no n) (eb, el) = (omega (arith, length-append s (flat (insert r l)), length-append s (flat l)), ap suc el)
 
@@ -92,7 +94,8 @@ labelled-cost any xs h = omega arith
 labelled-cost (lab l) xs h = omega (arith, num-short 2 (9 + l) (omega arith))
 
 branch-cost : (l : Lab) (xs : List Expr) → LabIn InRange l → length (wordOf (branch (child ∷ labelled l xs))) ≤ 6 + cost xs
-branch-cost l xs h = omega (arith, joined-cost child (labelled l xs), labelled-cost l xs h, length-append (wordOf (all (child ∷ labelled l xs))) (5 ∷ []))
+branch-cost l xs h =
+    omega (arith, joined-cost child (labelled l xs), labelled-cost l xs h, length-append (wordOf (all (child ∷ labelled l xs))) (5 ∷ []))
 
 -- the branches of a forest, and the way on below a node
 branches-cost : (j : Forest Tag) → LabsIn InRange j → (cost (map branch (chains j)) ≤ 7 * size j) × (cost (onward (chains j)) ≤ 7 * size j)
@@ -121,7 +124,8 @@ aside-labs p (tree b j r) (h, hj, hr) = go (p b j) (aside-labs p r hr)
     go false ih = (h, hj, ih)
 
 off-cost : (p : Tag → Forest Tag → Bool) (k : Forest Tag) (l : List Expr) → LabsIn InRange k → cost (off p k l) ≤ 7 * size (aside p k) + cost l
-off-cost p k l h = rw (off-aside p k l) (omega (arith, append-cost (map branch (chains (aside p k))) l, (branches-cost (aside p k) (aside-labs p k h)) .0))
+off-cost p k l h =
+    rw (off-aside p k l) (omega (arith, append-cost (map branch (chains (aside p k))) l, (branches-cost (aside p k) (aside-labs p k h)) .0))
 
 -- a node on a way: its label, the branches off the way, and what follows
 own-cost : (p : Tag → Forest Tag → Bool) (b : Tag) (j : Forest Tag) (l : List Expr) → LabIn InRange (b .lab) → LabsIn InRange j
@@ -134,7 +138,9 @@ ups-cost (tree b j r) (h, hj, hr) = go (srcIn b j) (ups-cost j hj) (ups-cost r h
   where
     go : (x : Bool) → cost (ups j) ≤ 7 * size (on srcIn j) → cost (ups r) ≤ 7 * size (on srcIn r)
         → cost (cond x (ups j ++ labelled (b .lab) (off srcIn j (parent ∷ []))) (ups r)) ≤ 7 * size (cond x (tree b j (on srcIn r)) (on srcIn r))
-    go true ij ir = omega (arith, append-cost (ups j) (labelled (b .lab) (off srcIn j (parent ∷ []))), own-cost srcIn b j (parent ∷ []) h hj, size-ways srcIn j)
+    go true ij ir =
+        let own = labelled (b .lab) (off srcIn j (parent ∷ [])) in
+        omega (arith, append-cost (ups j) own, own-cost srcIn b j (parent ∷ []) h hj, size-ways srcIn j)
     go false ij ir = ir
 
 downs-cost : (k : Forest Tag) → LabsIn InRange k → cost (downs k) ≤ 7 * size (on dstIn k)
@@ -166,7 +172,8 @@ around-cost way a k h hk e =
       ap size (on-dst k e),
     )
 
-longer-cost : (way : List Expr) (a : Tag) (k : Forest Tag) → LabIn InRange (a .lab) → LabsIn InRange k → cost (longer way a k) ≤ 6 + cost way + 7 * size (aside bothIn k)
+longer-cost : (way : List Expr) (a : Tag) (k : Forest Tag) → LabIn InRange (a .lab) → LabsIn InRange k
+    → cost (longer way a k) ≤ 6 + cost way + 7 * size (aside bothIn k)
 longer-cost way a k h hk = omega (arith, append-cost way (labelled (a .lab) (off bothIn k (child ∷ []))), own-cost bothIn a k (child ∷ []) h hk)
 
 factors-cost : (f : Forest Tag) (way : List Expr) → LabsIn InRange f → cost (factors f way) ≤ suc (cost way) + 7 * size (on bothIn f)
@@ -176,7 +183,8 @@ factors-cost (tree a k r) way (h, hk, hr) = go (bothIn a k) (someTree bothIn k) 
     go : (x y : Bool) → someTree bothIn k ≡ y
         → cost (factors k (longer way a k)) ≤ suc (cost (longer way a k)) + 7 * size (on bothIn k)
         → cost (factors r way) ≤ suc (cost way) + 7 * size (on bothIn r)
-        → cost (cond x (cond y (factors k (longer way a k)) (around way a k)) (factors r way)) ≤ suc (cost way) + 7 * size (cond x (tree a k (on bothIn r)) (on bothIn r))
+        → cost (cond x (cond y (factors k (longer way a k)) (around way a k)) (factors r way))
+        ≤ suc (cost way) + 7 * size (cond x (tree a k (on bothIn r)) (on bothIn r))
     go true true e ik ir = omega (arith, longer-cost way a k h hk, size-ways bothIn k)
     go true false e ik ir = omega (arith, around-cost way a k h hk e)
     go false y e ik ir = ir

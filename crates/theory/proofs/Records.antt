@@ -1,5 +1,5 @@
--- Records can be read back: no record is the beginning of another. So trees with one image are one tree, "the children's records in ascending
--- byte order", and trees that are the same up to the order of brothers have one image. Image order changes neither records nor image.
+-- Records can be read back: no record is the beginning of another. So an image decides its tree up to the order of brothers, and trees that are
+-- the same up to that order have one image. "The children's records in ascending byte order" are those of the forest in image order.
 use mathlib.Core.Path.{_≡_, refl, sym, ap, _∙_}
 use mathlib.Core.Logic.{_⊎_, inl, inr}
 use mathlib.Core.Bool.{Bool, true, false}
@@ -150,7 +150,8 @@ records-back f g sf sg e = (flat-back f g [] [] sf sg (inl (ap length e)) (ap (�
 
 -- the forest in image order is decided by the records
 pub ordered-of-records : (f g : Forest Tag) → records f ≡ records g → ordered f ≡ ordered g
-ordered-of-records f g e = records-back (ordered f) (ordered g) (sorted-ordered f) (sorted-ordered g) (records-ordered f ∙ e ∙ sym (records-ordered g))
+ordered-of-records f g e =
+    records-back (ordered f) (ordered g) (sorted-ordered f) (sorted-ordered g) (records-ordered f ∙ e ∙ sym (records-ordered g))
 
 pub ordered-twice : (f : Forest Tag) → ordered (ordered f) ≡ ordered f
 ordered-twice f = ordered-of-records (ordered f) f (records-ordered f)

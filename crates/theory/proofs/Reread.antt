@@ -1,5 +1,5 @@
--- The word of an expression is read as that expression, wherever it stands and whatever is pending, as long as the limits are kept;
--- and a word that is accepted kept them.
+-- The word of an expression is read back as that expression, "sign by sign", wherever it stands and whatever is pending, as long as the limits
+-- are kept: labels up to 65,535, at most 255 steps, at most 256 operands pending, at most 4,096 bytes.
 use mathlib.Core.Path.{_≡_, refl, sym, ap, subst, _∙_}
 use mathlib.Core.Bool.{Bool, true, false, cond}
 use mathlib.Core.List.{List, [], _∷_, _++_, append-nil, append-assoc}
@@ -44,7 +44,9 @@ read-at word at v rest e le = rw (e, read-num v rest, le-leb v largestSign le)
 -- the sign of a label is an operand and no step
 pub sign-label : (l : ℕ) → signOf (9 + l) ≡ operand (label l)
 unfolding signOf
-sign-label l = List·getD-eq-default signs (operand (label (9 + l - 9))) {n = 9 + l} (omega arith) ∙ ap (λ n. operand (label n)) (let z : 9 + l - 9 ≡ l = omega arith in z)
+sign-label l =
+    let e : 9 + l - 9 ≡ l = omega arith in
+    List·getD-eq-default signs (operand (label (9 + l - 9))) {n = 9 + l} (omega arith) ∙ ap (λ n. operand (label n)) e
 
 pub step-label : (l : ℕ) → isStep (9 + l) ≡ false
 unfolding isStep
@@ -60,7 +62,8 @@ push : (e : Expr) (b : Bool) (es : List Expr) (at k : ℕ) → steps e ≡ cond 
 push e true es at k q le lt = rw (lt-ltb (length es) 256 lt, lt-ltb k 255 (omega arith), q)
 push e false es at k q le lt = rw (lt-ltb (length es) 256 lt, q) (ap (λ j. answered (pend (e ∷ es) j)) (let z : k ≡ k + 0 = omega arith in z))
 
-take-label : (l : ℕ) (es : List Expr) (at k : ℕ) → k + 0 ≤ 255 → length es < 256 → takes (9 + l) (pend es k) at ≡ answered (pend (label l ∷ es) (k + 0))
+take-label : (l : ℕ) (es : List Expr) (at k : ℕ) → k + 0 ≤ 255 → length es < 256
+    → takes (9 + l) (pend es k) at ≡ answered (pend (label l ∷ es) (k + 0))
 unfolding takes
 take-label l es at k s lt = rw (sign-label l, step-label l) (push (label l) false es at k refl s lt)
 
@@ -88,13 +91,14 @@ module _ (word : List ℕ) where
       go (answered u) = same (at + n) u (omega (arith, (number-read word at v n e) .1))
   onNumber-agree f g at st same broken e = refl
 
-  -- "A sign takes a byte or more": any number of turns that reaches the end gives the same
+  -- a sign takes a byte or more, so any number of turns that reaches the end gives the same
   pub run-enough : (k j at : ℕ) (st : Pending) → length word ≤ at + k → length word ≤ at + j → run k word at st ≡ run j word at st
   run-enough zero j at st h i = run-past zero at st (omega arith) ∙ sym (run-past j at st (omega arith))
   run-enough (suc k) zero at st h i = run-past (suc k) at st (omega arith) ∙ sym (run-past zero at st (omega arith))
   run-enough (suc k) (suc j) at st h i = go (ltb at (length word)) refl (λ next u lt. run-enough k j next u (omega arith) (omega arith))
     where
-      go : (t : Bool) → ltb at (length word) ≡ t → ((next : ℕ) (u : Pending) → at < next → run k word next u ≡ run j word next u) → run (suc k) word at st ≡ run (suc j) word at st
+      go : (t : Bool) → ltb at (length word) ≡ t → ((next : ℕ) (u : Pending) → at < next → run k word next u ≡ run j word next u)
+          → run (suc k) word at st ≡ run (suc j) word at st
       go true q ih =
           run-one k at st (ltb-true at (length word) q)
           ∙ onNumber-agree (λ next u. run k word next u) (λ next u. run j word next u) at st ih (readNumber word at) refl
@@ -140,22 +144,32 @@ module _ (word : List ℕ) where
       → ((at : ℕ) → takes v (pend (e ∷ es) j) at ≡ answered (pend (op e ∷ es) j))
       → Through (wordOf e) (pend es k) (pend (e ∷ es) j) → Through (wordOf e ++ (v ∷ [])) (pend es k) (pend (op e ∷ es) j)
   through-unary op v e es k j lt t p =
-      through-append (wordOf e) (v ∷ []) (pend es k) (pend (e ∷ es) j) (pend (op e ∷ es) j) p (through-byte v (pend (e ∷ es) j) (pend (op e ∷ es) j) lt t)
+      through-append (wordOf e) (v ∷ []) (pend es k) (pend (e ∷ es) j) (pend (op e ∷ es) j) p
+      (through-byte v (pend (e ∷ es) j) (pend (op e ∷ es) j) lt t)
 
   -- ------------------------------------------------------------------ through the word of an expression
   -- the reader goes through the word of e, and e is pending then
   pub run-word : (e : Expr) (es : List Expr) (k : ℕ) → LabelsIn InRange e → k + steps e ≤ 255 → length es + need e ≤ 256
       → Through (wordOf e) (pend es k) (pend (e ∷ es) (k + steps e))
   unfolding takes signOf isStep
-  run-word empty es k h s n = through-byte 0 (pend es k) (pend (empty ∷ es) (k + 0)) (omega arith) (λ at. push empty false es at k refl s (omega arith))
-  run-word self es k h s n = through-byte 1 (pend es k) (pend (self ∷ es) (k + 0)) (omega arith) (λ at. push self false es at k refl s (omega arith))
-  run-word child es k h s n = through-byte 2 (pend es k) (pend (child ∷ es) (k + 1)) (omega arith) (λ at. push child true es at k refl s (omega arith))
-  run-word parent es k h s n = through-byte 3 (pend es k) (pend (parent ∷ es) (k + 1)) (omega arith) (λ at. push parent true es at k refl s (omega arith))
-  run-word (label l) es k h s n = through-sign (9 + l) (pend es k) (pend (label l ∷ es) (k + 0)) (omega arith) (λ at. take-label l es at k (omega arith) (omega arith))
-  run-word (comp e f) es k (he, hf) s n = through-binary comp 4 e f es k (omega arith) (λ j at. refl) (run-word e es k he (omega arith) (omega arith)) (run-word f (e ∷ es) (k + steps e) hf (omega arith) (omega arith))
+  run-word empty es k h s n =
+      through-byte 0 (pend es k) (pend (empty ∷ es) (k + 0)) (omega arith) (λ at. push empty false es at k refl s (omega arith))
+  run-word self es k h s n =
+      through-byte 1 (pend es k) (pend (self ∷ es) (k + 0)) (omega arith) (λ at. push self false es at k refl s (omega arith))
+  run-word child es k h s n =
+      through-byte 2 (pend es k) (pend (child ∷ es) (k + 1)) (omega arith) (λ at. push child true es at k refl s (omega arith))
+  run-word parent es k h s n =
+      through-byte 3 (pend es k) (pend (parent ∷ es) (k + 1)) (omega arith) (λ at. push parent true es at k refl s (omega arith))
+  run-word (label l) es k h s n =
+      through-sign (9 + l) (pend es k) (pend (label l ∷ es) (k + 0)) (omega arith) (λ at. take-label l es at k (omega arith) (omega arith))
+  run-word (comp e f) es k (he, hf) s n =
+      through-binary comp 4 e f es k (omega arith) (λ j at. refl)
+      (run-word e es k he (omega arith) (omega arith)) (run-word f (e ∷ es) (k + steps e) hf (omega arith) (omega arith))
   run-word (proj1 e) es k h s n = through-unary proj1 5 e es k (k + steps e) (omega arith) (λ at. refl) (run-word e es k h s n)
   run-word (proj2 e) es k h s n = through-unary proj2 6 e es k (k + steps e) (omega arith) (λ at. refl) (run-word e es k h s n)
-  run-word (inter e f) es k (he, hf) s n = through-binary inter 7 e f es k (omega arith) (λ j at. refl) (run-word e es k he (omega arith) (omega arith)) (run-word f (e ∷ es) (k + steps e) hf (omega arith) (omega arith))
+  run-word (inter e f) es k (he, hf) s n =
+      through-binary inter 7 e f es k (omega arith) (λ j at. refl)
+      (run-word e es k he (omega arith) (omega arith)) (run-word f (e ∷ es) (k + steps e) hf (omega arith) (omega arith))
   run-word (inv e) es k h s n = through-unary inv 8 e es k (k + steps e) (omega arith) (λ at. refl) (run-word e es k h s n)
 
 -- the word of an expression is accepted as that expression
