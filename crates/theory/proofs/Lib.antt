@@ -7,3 +7,17 @@ pub mod Folding
 pub mod Removal
 pub mod Minimal
 pub mod Unique
+pub mod Count
+pub mod Labels
+pub mod Order
+pub mod ByteOrder
+pub mod Numbers
+pub mod Records
+pub mod Ways
+pub mod Normal
+pub mod Steps
+pub mod Factors
+pub mod Operands
+pub mod Limits
+pub mod Reread
+pub mod Accepted
