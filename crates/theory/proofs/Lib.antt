@@ -4,6 +4,7 @@ pub mod Count
 pub mod Labels
 pub mod Order
 pub mod Ways
+pub mod Run
 pub mod Normal
 pub mod Steps
 pub mod Factors

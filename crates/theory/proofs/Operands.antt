@@ -1,5 +1,4 @@
 -- How many operands are pending while the word of a normal form is read: never more than 256 for a tree of at most 256 nodes (01, refusal 4).
-use mathlib.Core.Bool.{Bool}
 use mathlib.Core.List.{List, [], _∷_, map}
 use Prim.Native.Nat.{ℕ, zero, suc, _+_, _≤_, max}
 use native.Mathlib.Omega.{arith}

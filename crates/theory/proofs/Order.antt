@@ -3,14 +3,14 @@ use mathlib.Core.Path.{_≡_, refl, sym, _∙_}
 use mathlib.Core.Logic.{_↔_}
 use mathlib.Core.Option.{Option, some}
 use mathlib.Core.Bool.{Bool, true}
-use Prim.Native.Nat.{ℕ, _+_}
+use Prim.Native.Nat.{ℕ}
 use native.Mathlib.Omega.{arith}
 use Rattle.meaning.specs.Basics.{pick}
 use Rattle.meaning.specs.Document.{Doc}
 use Rattle.meaning.specs.Tree.{Forest, bare, tree, Tag, size, Lays}
 use Rattle.meaning.specs.Image.{LeL, decL, recordOf, records, place, ordered}
 use Rattle.theory.proofs.Count.{count, size-count}
-use Rattle.theory.proofs.Labels.{LabIn, LabsIn}
+use Rattle.theory.proofs.Labels.{LabsIn}
 
 -- E does not look at the order of brothers
 record Orderless (E : Forest Tag → Forest Tag → Type 0) : Type 0 where

@@ -1,15 +1,15 @@
 -- The normal form of a tree has a step for each edge of the tree (01, Normal form: "its steps are the minimal node count less one").
-use mathlib.Core.Path.{_≡_, refl, ap, subst}
-use mathlib.Core.Bool.{Bool, true, false, _&&_, _||_, cond}
+use mathlib.Core.Path.{_≡_, refl, ap}
+use mathlib.Core.Bool.{Bool, true, false, _||_, cond}
 use mathlib.Core.List.{List, [], _∷_, _++_, map}
 use Prim.Native.Nat.{ℕ, suc, _+_, _≤_}
 use native.Mathlib.Omega.{arith}
-use Rattle.meaning.specs.Expression.{Expr, child, parent, label, comp, proj1, proj2, steps}
+use Rattle.meaning.specs.Expression.{Expr, child, parent, comp, steps}
 use Rattle.meaning.specs.TreeQuery.{Lab, any, lab}
 use Rattle.meaning.specs.Tree.{Forest, bare, tree, Tag, size}
 use Rattle.meaning.specs.Normal.{joined, all, labelled, branch, onward, chains, inTree, srcIn, dstIn, bothIn, eitherIn, someTree, off, ups, downs, aboveFactor, longer, around, factors, normal}
-use Rattle.theory.proofs.Count.{bit, count, src, dst, Tells, in-tells}
-use Rattle.theory.proofs.Ways.{on, aside, off-aside, size-ways, count-ways, on-none, aside-either, on-dst, on-both, top-both}
+use Rattle.theory.proofs.Count.{bit, count, src, dst, Tells, in-tells, in-true}
+use Rattle.theory.proofs.Ways.{on, aside, off-aside, size-ways, on-none, aside-either, on-dst, on-both, top-both}
 
 -- ------------------------------------------------------------------ steps of a list of factors
 abbrev total : List Expr → ℕ
@@ -70,14 +70,14 @@ module _
     way-steps bare e = way-bare
     way-steps (tree b j r) e = rw (way-tree b j r) (go (inTree q b j) (in-tells q b j) (way-steps j (omega arith)) (way-steps r (omega arith)))
       where
-        Q : Tag → Forest Tag → Bool
-        Q = inTree q
+        p : Tag → Forest Tag → Bool
+        p = inTree q
 
-        go : (x : Bool) → Tells x (bit (q b) + count q j) → total (W j) ≡ size (on Q j) → total (W r) ≡ size (on Q r)
-            → total (cond x (next b j) (W r)) ≡ size (cond x (tree b j (on Q r)) (on Q r))
+        go : (x : Bool) → Tells x (bit (q b) + count q j) → total (W j) ≡ size (on p j) → total (W r) ≡ size (on p r)
+            → total (cond x (next b j) (W r)) ≡ size (cond x (tree b j (on p r)) (on p r))
         go true t ij ir =
-            let x = way-next b j in let y = size-ways Q j in
-            let z = ap size (on-none q Q (λ b′ j′ w. w) r (omega arith)) in omega arith
+            let x = way-next b j in let y = size-ways p j in
+            let z = ap size (on-none q p (in-true q) r (omega arith)) in omega arith
         go false t ij ir = ir
 
 ups-steps : (k : Forest Tag) → count src k ≤ 1 → total (ups k) ≡ size (on srcIn k)

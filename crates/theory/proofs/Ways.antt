@@ -1,6 +1,6 @@
 -- The brothers on a way and the brothers off it (01, Normal form: "each child off those ways"): together they are the forest,
 -- in what they select and in number, and the normal form's own factors are the branches of those off the way.
-use mathlib.Core.Path.{_≡_, refl, sym, ap, subst, _∙_}
+use mathlib.Core.Path.{_≡_, refl, sym, ap, _∙_}
 use mathlib.Core.Logic.{_↔_}
 use mathlib.Core.Option.{Option}
 use mathlib.Core.Bool.{Bool, true, false, _&&_, _||_, cond}
@@ -72,13 +72,13 @@ aside-count q (tree b j r) = go (inTree q b j) (in-tells q b j) (aside-count q r
     go false t ih = omega arith
 
 -- without the mark no tree holds it
-pub on-none : (q : Tag → Bool) (p : Tag → Forest Tag → Bool) → ((b : Tag) (j : Forest Tag) → p b j ≡ true → inTree q b j ≡ true)
+pub on-none : (q : Tag → Bool) (p : Tag → Forest Tag → Bool) → ((b : Tag) (j : Forest Tag) → p b j ≡ true → 1 ≤ bit (q b) + count q j)
     → (k : Forest Tag) → count q k ≡ 0 → on p k ≡ bare
 on-none q p h bare e = refl
 on-none q p h (tree b j r) e = go (p b j) refl (on-none q p h r (omega arith))
   where
     go : (x : Bool) → p b j ≡ x → on p r ≡ bare → cond x (tree b j (on p r)) (on p r) ≡ bare
-    go true y ih = let z = subst (λ x. Tells x (bit (q b) + count q j)) (h b j y) (in-tells q b j) in absurd (omega arith)
+    go true y ih = let z = h b j y in absurd (omega arith)
     go false y ih = ih
 
 -- ------------------------------------------------------------------ the ways to both
@@ -120,33 +120,15 @@ either-counts k e =
     let d = aside-count dst k in let d₁ = aside-count dst A in let d₂ = count-ways dst srcIn k in let d₃ = count-ways dst dstIn k in let d₄ = count-ways dst dstIn A in
     (omega arith, omega arith, omega arith)
 
-and-left : (x y : Bool) → (x && y) ≡ true → x ≡ true
-and-left true y e = refl
-and-left false y e = e
-
--- where a tree holds both marks, it alone does
-pub on-both : (k : Forest Tag) → count src k ≤ 1 → count dst k ≤ 1 → someTree bothIn k ≡ true
-    → (b : Tag) × (j : Forest Tag) × (on bothIn k ≡ tree b j bare) × (count src k ≡ 1) × (count dst k ≡ 1) × (marks (aside bothIn k) ≡ 0)
-on-both bare s d e = let o : _≡_ {A = ℕ} 0 1 = cc in absurd (omega arith)
-on-both (tree b j r) s d e = go (srcIn b j) (dstIn b j) (in-tells src b j) (in-tells dst b j) e (on-both r (omega arith) (omega arith))
+-- a tree that holds both marks has them
+pub both-true : (a : Tag) (k : Forest Tag) → bothIn a k ≡ true → (1 ≤ bit (src a) + count src k) × (1 ≤ bit (dst a) + count dst k)
+both-true a k = go (srcIn a k) (dstIn a k) (in-tells src a k) (in-tells dst a k)
   where
-    Alone : Bool → Type 0
-    Alone x = (c : Tag) × (i : Forest Tag) × (cond x (tree b j (on bothIn r)) (on bothIn r) ≡ tree c i bare)
-        × (count src (tree b j r) ≡ 1) × (count dst (tree b j r) ≡ 1) × (marks (cond x (aside bothIn r) (tree b j (aside bothIn r))) ≡ 0)
-
-    Later : Type 0
-    Later = (c : Tag) × (i : Forest Tag) × (on bothIn r ≡ tree c i bare) × (count src r ≡ 1) × (count dst r ≡ 1) × (marks (aside bothIn r) ≡ 0)
-
-    later : Later → Alone false
-    later (c, i, x, y, z, w) = (c, i, x, omega arith, omega arith, omega arith)
-
-    go : (x y : Bool) → Tells x (bit (src b) + count src j) → Tells y (bit (dst b) + count dst j) → ((x && y) || someTree bothIn r) ≡ true
-        → (someTree bothIn r ≡ true → Later) → Alone (x && y)
-    go true true t u z ih =
-        let v = count-ways src bothIn r in let w = count-ways dst bothIn r in
-        (b, j, ap (tree b j) (on-none src bothIn (λ c i. and-left (srcIn c i) (dstIn c i)) r (omega arith)), omega arith, omega arith, omega arith)
-    go true false t u z ih = later (ih z)
-    go false y t u z ih = later (ih z)
+    go : (x y : Bool) → Tells x (bit (src a) + count src k) → Tells y (bit (dst a) + count dst k) → (x && y) ≡ true
+        → (1 ≤ bit (src a) + count src k) × (1 ≤ bit (dst a) + count dst k)
+    go true true t u e = (t, u)
+    go true false t u e = let o : _≡_ {A = ℕ} 0 1 = cc in absurd (omega arith)
+    go false y t u e = let o : _≡_ {A = ℕ} 0 1 = cc in absurd (omega arith)
 
 -- a tree that has both marks holds them
 pub top-both : (a : Tag) (k : Forest Tag) → count src (tree a k bare) ≡ 1 → count dst (tree a k bare) ≡ 1 → bothIn a k ≡ true
@@ -156,3 +138,19 @@ top-both a k s d = go (srcIn a k) (dstIn a k) (in-tells src a k) (in-tells dst a
     go true true t u = refl
     go true false t u = absurd (omega arith)
     go false y t u = absurd (omega arith)
+
+-- where a tree holds both marks, it alone does
+pub on-both : (k : Forest Tag) → count src k ≤ 1 → count dst k ≤ 1 → someTree bothIn k ≡ true
+    → (b : Tag) × (j : Forest Tag) × (on bothIn k ≡ tree b j bare) × (1 ≤ count src k) × (1 ≤ count dst k) × (marks (aside bothIn k) ≡ 0)
+on-both bare s d e = let o : _≡_ {A = ℕ} 0 1 = cc in absurd (omega arith)
+on-both (tree b j r) s d e = go (bothIn b j) refl e (on-both r (omega arith) (omega arith))
+  where
+    go : (x : Bool) → bothIn b j ≡ x → (x || someTree bothIn r) ≡ true
+        → (someTree bothIn r ≡ true → (c : Tag) × (i : Forest Tag) × (on bothIn r ≡ tree c i bare) × (1 ≤ count src r) × (1 ≤ count dst r) × (marks (aside bothIn r) ≡ 0))
+        → (c : Tag) × (i : Forest Tag) × (cond x (tree b j (on bothIn r)) (on bothIn r) ≡ tree c i bare)
+        × (1 ≤ count src (tree b j r)) × (1 ≤ count dst (tree b j r)) × (marks (cond x (aside bothIn r) (tree b j (aside bothIn r))) ≡ 0)
+    go true y t ih =
+        let (u, v) = both-true b j y in
+        let w = count-ways src bothIn r in let z = count-ways dst bothIn r in
+        (b, j, ap (tree b j) (on-none src bothIn (λ c i q. (both-true c i q) .0) r (omega arith)), omega arith, omega arith, omega arith)
+    go false y t ih = let (c, i, o, u, v, w) = ih t in (c, i, o, omega arith, omega arith, omega arith)
