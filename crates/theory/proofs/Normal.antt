@@ -4,18 +4,18 @@
 use mathlib.Core.Path.{_≡_, refl, sym, subst}
 use mathlib.Core.Logic.{_↔_}
 use mathlib.Core.Option.{some}
-use mathlib.Core.Bool.{Bool, true, false, _||_, cond}
+use mathlib.Core.Bool.{Bool, true, false, cond}
 use mathlib.Core.List.{List, [], _∷_, _++_, map}
-use Prim.Native.Nat.{ℕ, _+_, _≤_}
+use Prim.Native.Nat.{ℕ, _+_}
 use native.Mathlib.Omega.{arith}
 use Rattle.meaning.specs.Document.{Doc, In, Child, labelOf}
 use Rattle.meaning.specs.Expression.{Expr, child, parent, pairs}
 use Rattle.meaning.specs.TreeQuery.{Lab, Fits}
 use Rattle.meaning.specs.Tree.{Forest, bare, tree, Tag, Lays, MarkOn, OnPair, Takes}
 use Rattle.meaning.specs.Normal.{labelled, branch, onward, chains, inTree, srcIn, dstIn, bothIn, eitherIn, someTree, off, ups, downs, aboveFactor, longer, around, factors, normal}
-use Rattle.theory.proofs.Count.{bit, count, src, dst, marks, Tells, in-tells, in-true}
+use Rattle.theory.proofs.Count.{bit, count, src, dst, marks}
 use Rattle.theory.proofs.Run.{Run, Starts, pairs-in, run-in, joined-run, all-run, app-run, labelled-run, branches-run, onward-start}
-use Rattle.theory.proofs.Ways.{on, aside, off-aside, count-ways, lays-ways, aside-count, on-none, aside-either, on-dst, either-counts, both-true, top-both, on-both}
+use Rattle.theory.proofs.Ways.{on, aside, off-aside, count-ways, lays-ways, aside-count, aside-either, on-dst, either-counts, way-ind, factors-ind}
 
 mark-off : (b : Bool) (w m : ℕ) → bit b ≡ 0 → MarkOn b w m
 mark-off false w m e = tt
@@ -87,38 +87,26 @@ module _ (D : Doc) (m n : ℕ) where
       (way-next : (b : Tag) (j : Forest Tag) → count q (aside (inTree q) j) + count q′ (aside (inTree q) j) ≡ 0 → (v : ℕ)
       → R (next b j) v ↔ ((w : ℕ) × Child D v w × Fits (b .lab) (labelOf D w) × L (aside (inTree q) j) w × R (W j) w))
     where
-      -- the mark is at the node above the forest (b), or in the forest
-      way-run : (b : Bool) (k : Forest Tag) → bit b + count q k ≡ 1 → count q′ (on (inTree q) k) ≡ 0 → (v : ℕ)
-          → R (W k) v ↔ (In D v × MarkOn b v x × L (on (inTree q) k) v)
-      way-run true bare e o v = (λ r. let y = (way-bare v) .0 r in (y .0, y .1, tt), λ (i, y, t). (way-bare v) .1 (i, y))
-      way-run false bare e o v = absurd (omega arith)
-      way-run b (tree c j r) e o v =
-          rw (way-tree c j r) (go (inTree q c j) (in-tells q c j) o (way-run (q c) j) (λ e′ o′. way-run b r e′ o′ v))
-        where
-          p : Tag → Forest Tag → Bool
-          p = inTree q
+      -- the factors lay the tree f that holds the mark, or the node v above it has the mark (y)
+      abbrev Right : List Expr → Bool → Forest Tag → Type 0
+      Right xs y f = count q′ f ≡ 0 → (v : ℕ) → R xs v ↔ (In D v × MarkOn y v x × L f v)
 
-          go : (y : Bool) → Tells y (bit (q c) + count q j) → count q′ (cond y (tree c j (on p r)) (on p r)) ≡ 0
-              → (bit (q c) + count q j ≡ 1 → count q′ (on p j) ≡ 0 → (w : ℕ) → R (W j) w ↔ (In D w × MarkOn (q c) w x × L (on p j) w))
-              → (bit b + count q r ≡ 1 → count q′ (on p r) ≡ 0 → R (W r) v ↔ (In D v × MarkOn b v x × L (on p r) v))
-              → R (cond y (next c j) (W r)) v ↔ (In D v × MarkOn b v x × L (cond y (tree c j (on p r)) (on p r)) v)
-          go false t o′ ij ir = ir (omega arith) o′
-          go true t o′ ij ir =
-              let z = count-ways q′ p j in let z′ = aside-count q j in
-              let ih = ij (omega arith) (omega arith) in
-              let st = way-next c j (omega arith) v in (
-                λ s. let (w, ch, f, a, l) = st .0 s in let (i, mk, l′) = (ih w) .0 l in (
-                  (pairs-in D child v w ch) .0,
-                  mark-off b v x (omega arith),
-                  (
-                    (w, ch, (on-one c w (omega arith)) .1 (f, mk), (lays-ways D (OnPair D m n) p j (some w)) .1 (l′, a)),
-                    rw (on-none q p (in-true q) r (omega arith)) tt,
-                  ),
-                ),
-                λ (i, mk, l). let (w, ch, o″, l′) = l .0 in let (f, mk′) = (on-one c w (omega arith)) .0 o″ in
-                    let (l₁, l₂) = (lays-ways D (OnPair D m n) p j (some w)) .0 l′ in
-                    st .1 (w, ch, f, l₂, (ih w) .1 (ch .inside, mk′, l₁)),
-              )
+      higher : (b : Tag) (j : Forest Tag) → Right (W j) (q b) (on (inTree q) j) → Right (next b j) false (tree b j bare)
+      higher b j ih o v =
+          let z = count-ways q′ (inTree q) j in let z′ = aside-count q j in
+          let s = way-next b j (omega arith) v in (
+            λ r. let (w, c, f, a, l) = s .0 r in let (i, y, l′) = (ih (omega arith) w) .0 l in
+                ((pairs-in D child v w c) .0, tt, ((w, c, (on-one b w (omega arith)) .1 (f, y), (lays-ways D (OnPair D m n) (inTree q) j (some w)) .1 (l′, a)), tt)),
+            λ (i, t, l). let (w, c, y, l′) = l .0 in let (f, y′) = (on-one b w (omega arith)) .0 y in
+                let (l₁, l₂) = (lays-ways D (OnPair D m n) (inTree q) j (some w)) .0 l′ in
+                s .1 (w, c, f, l₂, (ih (omega arith) w) .1 (c .inside, y′, l₁)),
+          )
+
+      way-run : (y : Bool) (k : Forest Tag) → bit y + count q k ≡ 1 → Right (W k) y (on (inTree q) k)
+      way-run =
+          way-ind q W next way-tree Right
+          (λ o v. (λ r. let (i, e) = (way-bare v) .0 r in (i, e, tt), λ (i, e, t). (way-bare v) .1 (i, e)))
+          higher
 
   -- "for each node from s up to just below t, its own factors and then parent"
   ups-run : (b : Bool) (k : Forest Tag) → bit b + count src k ≡ 1 → count dst (on srcIn k) ≡ 0 → (v : ℕ)
@@ -175,15 +163,16 @@ module _ (D : Doc) (m n : ℕ) where
   abbrev Held : List Expr → Tag → Forest Tag → Type 0
   Held way a k = (w : ℕ) × Above way w × OnPair D m n a w × L k w
 
-  -- the tree goes on with the only child that holds a mark
-  held-longer : (way : List Expr) (a : Tag) (k : Forest Tag) (b : Tag) (j : Forest Tag) → bit (a .src) ≡ 0 → bit (a .dst) ≡ 0
-      → on bothIn k ≡ tree b j bare → marks (aside bothIn k) ≡ 0 → Held (longer way a k) b j ↔ Held way a k
-  held-longer way a k b j s d e c = (
-    λ (u, ab, o, l). let (w, ab′, f, l′, ch) = (longer-run way a k c u) .0 ab in
+  -- one node higher: the tree goes on with the only child that holds a mark
+  held-longer : (xs way : List Expr) (a : Tag) (k : Forest Tag) (b : Tag) (j : Forest Tag) → bit (a .src) ≡ 0 → bit (a .dst) ≡ 0
+      → on bothIn k ≡ tree b j bare → marks (aside bothIn k) ≡ 0 → Run D xs m n ↔ Held (longer way a k) b j → Run D xs m n ↔ Held way a k
+  held-longer xs way a k b j s d e c ih = (
+    λ r. let (u, ab, o, l) = ih .0 r in
+        let (w, ab′, f, l′, ch) = (longer-run way a k c u) .0 ab in
         (w, ab′, on-unmarked a w s d f, (lays-ways D (OnPair D m n) bothIn k (some w)) .1 (rw e ((u, ch, o, l), tt), l′)),
     λ (w, ab, o, l). let (l₁, l₂) = (lays-ways D (OnPair D m n) bothIn k (some w)) .0 l in
         let (z, t) = subst (λ f. L f w) e l₁ in
-        (z .0, (longer-run way a k c (z .0)) .1 (w, ab, o .0, l₂, z .1), z .2, z .3),
+        ih .1 (z .0, (longer-run way a k c (z .0)) .1 (w, ab, o .0, l₂, z .1), z .2, z .3),
   )
 
   -- ---------------------------------------------------------------- the lowest node above or at both
@@ -214,42 +203,12 @@ module _ (D : Doc) (m n : ℕ) where
             ),
       )
 
-  -- ---------------------------------------------------------------- all factors
-  abbrev HeldTop : List Expr → Forest Tag → Type 0
-  HeldTop way bare = ⊥
-  HeldTop way (tree a k r) = Held way a k
-
-  factors-run : (f : Forest Tag) (way : List Expr) → count src f ≤ 1 → count dst f ≤ 1 → someTree bothIn f ≡ true
-      → Run D (factors f way) m n ↔ HeldTop way (on bothIn f)
-  factors-run bare way s d e = let o : _≡_ {A = ℕ} 0 1 = cc in absurd (omega arith)
-  factors-run (tree a k r) way s d e =
-      go (bothIn a k) refl e (factors-run k (longer way a k) (omega arith) (omega arith)) (factors-run r way (omega arith) (omega arith))
-    where
-      Below : Type 0
-      Below = someTree bothIn k ≡ true → Run D (factors k (longer way a k)) m n ↔ HeldTop (longer way a k) (on bothIn k)
-
-      here : bothIn a k ≡ true → Below → (z : Bool) → someTree bothIn k ≡ z → Run D (cond z (factors k (longer way a k)) (around way a k)) m n ↔ Held way a k
-      here y ih false t = let (u, v) = both-true a k y in around-run way a k (omega arith) (omega arith) t
-      here y ih true t =
-          let (b, j, o, cs, cd, ca) = on-both k (omega arith) (omega arith) t in
-          let h = held-longer way a k b j (omega arith) (omega arith) o ca in
-          let x : Run D (factors k (longer way a k)) m n ↔ Held (longer way a k) b j = rw o at (ih t) in
-          (λ r₁. h .0 (x .0 r₁), λ r₁. x .1 (h .1 r₁))
-
-      go : (x : Bool) → bothIn a k ≡ x → (x || someTree bothIn r) ≡ true → Below → (someTree bothIn r ≡ true → Run D (factors r way) m n ↔ HeldTop way (on bothIn r))
-          → Run D (cond x (cond (someTree bothIn k) (factors k (longer way a k)) (around way a k)) (factors r way)) m n
-          ↔ HeldTop way (cond x (tree a k (on bothIn r)) (on bothIn r))
-      go true y t ik ir = here y ik (someTree bothIn k) refl
-      go false y t ik ir = ir t
-
 -- the normal form selects what the tree selects
 pub normal-means : (a : Tag) (k : Forest Tag) → count src (tree a k bare) ≡ 1 → count dst (tree a k bare) ≡ 1
     → (D : Doc) (m n : ℕ) → pairs (normal (tree a k bare)) D m n ↔ Takes (tree a k bare) D m n
 normal-means a k s d D m n =
-    let b = top-both a k s d in
     let F : List Expr = factors (tree a k bare) [] in
-    let x : Run D F m n ↔ HeldTop D m n [] (on bothIn (tree a k bare)) = factors-run D m n (tree a k bare) [] (omega arith) (omega arith) (rw b refl) in
-    let y : Run D F m n ↔ Held D m n [] a k = subst (λ z. Run D F m n ↔ HeldTop D m n [] (cond z (tree a k bare) bare)) b x in (
-      λ p. let (w, ab, o, l) = y .0 ((all-run D F m n) .0 p) in ((w, (run-in D [] (ab .0) w (ab .1)) .1, o, l), tt),
-      λ (h, t). (all-run D F m n) .1 (y .1 (h .0, (h .0, (refl, h .1)), h .2, h .3)),
+    let x : Run D F m n ↔ Held D m n [] a k = factors-ind (λ xs way b j. Run D xs m n ↔ Held D m n way b j) (around-run D m n) (held-longer D m n) a k s d in (
+      λ p. let (w, ab, o, l) = x .0 ((all-run D F m n) .0 p) in ((w, (run-in D [] (ab .0) w (ab .1)) .1, o, l), tt),
+      λ (h, t). (all-run D F m n) .1 (x .1 (h .0, (h .0, (refl, h .1)), h .2, h .3)),
     )

@@ -42,7 +42,10 @@ ordered-lays D On =
     (record {
       same = λ f v. (λ l. l, λ l. l);
       via = λ f g h x y v. (λ l. (y v) .0 ((x v) .0 l), λ l. (x v) .1 ((y v) .1 l));
-      under = λ a k k′ r r′ x y v. (λ (s, l). ((s .0, s .1, s .2, (x (some (s .0))) .0 (s .3)), (y v) .0 l), λ (s, l). ((s .0, s .1, s .2, (x (some (s .0))) .1 (s .3)), (y v) .1 l));
+      under = λ a k k′ r r′ x y v. (
+        λ (s, l). ((s .0, s .1, s .2, (x (some (s .0))) .0 (s .3)), (y v) .0 l),
+        λ (s, l). ((s .0, s .1, s .2, (x (some (s .0))) .1 (s .3)), (y v) .1 l),
+      );
       swap = λ a k b j r v. (λ (s, l). (l .0, (s, l .1)), λ (s, l). (l .0, (s, l .1)));
     })
 
