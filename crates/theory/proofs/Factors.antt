@@ -152,7 +152,7 @@ labs-any (tree a k r) = (go (a .lab), labs-any k, labs-any r)
     go any = tt
     go (lab l) = tt
 
--- the normal form has no intersection and no inverse
+-- demand 3: "the normal form has no intersection and no inverse"
 pub normal-simple : (f : Forest Tag) → Simple (normal f)
 normal-simple f =
     normal-kept (λ _. Unit {0}) Simple

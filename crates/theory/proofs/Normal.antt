@@ -1,4 +1,4 @@
--- The normal form of a tree selects what the tree selects (01, Normal form; demand 3).
+-- The normal form of a tree selects what the tree selects (01, Normal form; demand 2).
 -- A list of factors is read as a run from node to node; then the branches, the way up from s, the way down to d and the way from the top
 -- are each the laying of a part of the tree.
 use mathlib.Core.Path.{_≡_, refl, sym, subst}
@@ -203,7 +203,7 @@ module _ (D : Doc) (m n : ℕ) where
             ),
       )
 
--- the normal form selects what the tree selects
+-- demand 2: "its minimal tree query and its normal form select the same pairs"; the premises say that the tree has one s and one d
 pub normal-means : (a : Tag) (k : Forest Tag) → count src (tree a k bare) ≡ 1 → count dst (tree a k bare) ≡ 1
     → (D : Doc) (m n : ℕ) → pairs (normal (tree a k bare)) D m n ↔ Takes (tree a k bare) D m n
 normal-means a k s d D m n =

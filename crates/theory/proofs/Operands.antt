@@ -1,4 +1,5 @@
--- How many operands are pending while the word of a normal form is read: never more than 256 for a tree of at most 256 nodes (01, refusal 4).
+-- How many operands are pending while the word of a normal form is read: never more than 256 for a tree of at most 256 nodes
+-- (01, refusal 4). In truth it is about half as many as there are nodes; 132 is what comes out here.
 use mathlib.Core.List.{List, [], _∷_, map}
 use Prim.Native.Nat.{ℕ, zero, suc, _+_, _≤_, max}
 use native.Mathlib.Omega.{arith}

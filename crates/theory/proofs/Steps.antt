@@ -88,7 +88,7 @@ around-steps way a k s d e =
     let v = size-ways srcIn k in let v₁ = size-ways dstIn (aside srcIn k) in
     let o = ap size (on-dst k e) in let o₁ = ap size (aside-either k) in omega arith
 
--- "its steps are the minimal node count less one"
+-- "its steps are the minimal node count less one"; the premises say that the tree has one s and one d
 pub normal-steps : (a : Tag) (k : Forest Tag) → count src (tree a k bare) ≡ 1 → count dst (tree a k bare) ≡ 1
     → suc (steps (normal (tree a k bare))) ≡ size (tree a k bare)
 normal-steps a k s d =
