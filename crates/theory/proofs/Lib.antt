@@ -14,6 +14,7 @@ pub mod ByteOrder
 pub mod Numbers
 pub mod Records
 pub mod Ways
+pub mod Run
 pub mod Normal
 pub mod Steps
 pub mod Factors
