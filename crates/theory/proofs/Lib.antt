@@ -1,2 +1,3 @@
 -- The theorems. Index lists the final statements; each other file proves what its name says.
 pub mod Cases
+pub mod Levels

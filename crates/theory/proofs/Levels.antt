@@ -1,0 +1,70 @@
+-- The levels of a tree ("A tree query is a tree"): every level down to a row's own has a row, so the top is there,
+-- and a tree has fewer levels than rows, so that many rounds of reading reach every node.
+use mathlib.Core.Path.{_≡_, refl, sym, ap, subst, _∙_}
+use mathlib.Core.Logic.{_≢_}
+use mathlib.Core.Option.{Option, none, some}
+use mathlib.Core.List.{List, [], _∷_}
+use Prim.Native.Nat.{ℕ, zero, suc, _≤_, _<_}
+use native.Mathlib.Decide.{ℕ-discrete, decLt}
+use native.Mathlib.Omega.{arith}
+use lib.ListN.{length}
+use Rattle.meaning.specs.Basics.{pick, look}
+use Rattle.meaning.specs.TreeQuery.{Lab, Row, node, Table, at, Live, Root, Tree}
+
+-- an entry stands below the length
+pub look-lt : {A : Type 0} (xs : List A) (i : ℕ) (x : A) → look xs i ≡ some x → i < length xs
+look-lt [] i x e = let z : _≡_ {A = ℕ} 0 1 = cc in absurd (omega arith)
+look-lt (y ∷ xs) zero x e = omega arith
+look-lt (y ∷ xs) (suc i) x e = let z = look-lt xs i x e in omega arith
+
+-- a function that takes each value up to K on the n numbers below n: K is below n
+hits-lt : (n K : ℕ) (f : ℕ → ℕ) → ((k : ℕ) → k ≤ K → (i : ℕ) × (i < n) × (f i ≡ k)) → K < n
+hits-lt zero K f hit = let w = (hit 0 (omega arith)) .1 in absurd (omega arith)
+hits-lt (suc n) zero f hit = omega arith
+hits-lt (suc n) (suc K) f hit = let z = hits-lt n K g (λ k le. go k le (hit k (omega arith)) (hit (suc K) (omega arith))) in omega arith
+  where
+    -- the last number's value stands where suc K stood
+    g : ℕ → ℕ
+    g i = pick (ℕ-discrete (f i) (suc K)) (f n) (f i)
+
+    kept : (k i : ℕ) (c : Dec (f i ≡ suc K)) → (f i ≡ suc K → f n ≡ k) → (f i ≢ suc K → f i ≡ k) → pick c (f n) (f i) ≡ k
+    kept k i (yes p) l r = l p
+    kept k i (no p) l r = r p
+
+    go : (k : ℕ) → k ≤ K → (i : ℕ) × (i < suc n) × (f i ≡ k) → (i : ℕ) × (i < suc n) × (f i ≡ suc K) → (i : ℕ) × (i < n) × (g i ≡ k)
+    go k le (i, li, ei) (j, lj, ej) = side (ℕ-discrete i n) (ℕ-discrete j n)
+      where
+        side : Dec (i ≡ n) → Dec (j ≡ n) → (i : ℕ) × (i < n) × (g i ≡ k)
+        side (no ne) c = (i, omega arith, kept k i (ℕ-discrete (f i) (suc K)) (λ z. absurd (omega arith)) (λ _. ei))
+        side (yes p) (no ne) = (j, omega arith, kept k j (ℕ-discrete (f j) (suc K)) (λ _. sym (ap f p) ∙ ei) (λ z. absurd (z ej)))
+        side (yes p) (yes q) = let z : f i ≡ f j = ap f (p ∙ sym q) in absurd (omega arith)
+
+module _ (T : Table) (t : Tree T) where
+  pub root-lev : (i : ℕ) (l : Lab) → at T i ≡ some (node none l) → t .lev i ≡ 0
+  root-lev i l e = ap (t .lev) (t .single i (l, e)) ∙ t .topLev
+
+  -- above a row of level n there is a row of each level k ≤ n
+  row-of-level : (n i k : ℕ) → Live T i → t .lev i ≡ n → k ≤ n → (j : ℕ) × Live T j × (t .lev j ≡ k)
+  row-of-level zero i k li e le = (i, li, omega arith)
+  row-of-level (suc n) i k (none, l, ei) e le = let z = root-lev i l ei in absurd (omega arith)
+  row-of-level (suc n) i k (some p, l, ei) e le = go (ℕ-discrete k (suc n)) (t .linked i p l ei) (λ lp q. row-of-level n p k lp q)
+    where
+      Row-at : Type 0
+      Row-at = (j : ℕ) × Live T j × (t .lev j ≡ k)
+
+      go : Dec (k ≡ suc n) → Live T p × (t .lev i ≡ suc (t .lev p)) → (Live T p → t .lev p ≡ n → k ≤ n → Row-at) → Row-at
+      go (yes q) o ih = (i, (some p, l, ei), omega arith)
+      go (no q) (lp, o) ih = ih lp (omega arith) (omega arith)
+
+  -- a tree has fewer levels than rows
+  pub lev-lt : (i : ℕ) → Live T i → t .lev i < length T
+  lev-lt i li = hits-lt (length T) (t .lev i) (t .lev) (λ k le.
+      let w = row-of-level (t .lev i) i k li refl le in (w .0, look-lt T (w .0) (node (w .1 .0) (w .1 .1)) (w .1 .2), w .2))
+
+  -- where there is a row there is a top
+  pub top-root : (i : ℕ) → Live T i → Root T (t .top)
+  top-root i li = go (row-of-level (t .lev i) i 0 li refl (omega arith))
+    where
+      go : (j : ℕ) × Live T j × (t .lev j ≡ 0) → Root T (t .top)
+      go (j, (none, l, e), z) = subst (Root T) (t .single j (l, e)) (l, e)
+      go (j, (some p, l, e), z) = let o : t .lev j ≡ suc (t .lev p) = (t .linked j p l e) .1 in absurd (omega arith)
