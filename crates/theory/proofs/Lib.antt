@@ -1,3 +1,5 @@
 -- The theorems. Index lists the final statements; each other file proves what its name says.
 pub mod Cases
 pub mod Levels
+pub mod Bridge
+pub mod Back
