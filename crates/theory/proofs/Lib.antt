@@ -3,3 +3,4 @@ pub mod Cases
 pub mod Levels
 pub mod Bridge
 pub mod Back
+pub mod Weigh

@@ -1,0 +1,164 @@
+-- Every row of a tree query stands once in the tree that is read off it: whatever the nodes weigh, the tree weighs what the rows weigh.
+-- So the tree has as many nodes as the table has rows, and one node is s and one is d.
+use mathlib.Core.Path.{_≡_, refl, sym, ap, subst, _∙_}
+use mathlib.Core.Logic.{_≢_, inl, inr}
+use mathlib.Core.Option.{Option, none, some}
+use mathlib.Core.Bool.{Bool, true, false}
+use mathlib.Core.List.{List, [], _∷_}
+use Prim.Native.Nat.{ℕ, zero, suc, _+_, _≤_, _<_}
+use native.Mathlib.Decide.{ℕ-discrete}
+use native.Mathlib.Omega.{arith}
+use lib.ListN.{length}
+use Rattle.meaning.specs.Basics.{is}
+use Rattle.meaning.specs.TreeQuery.{Lab, Row, node, Table, at, Query, nodes, Live, TreeQuery}
+use Rattle.meaning.specs.Tree.{Forest, bare, tree, Tag, size, choose, kidsFrom, tagOf, plant, grow, treeOf}
+use Rattle.theory.proofs.Levels.{look-lt, lev-lt}
+use Rattle.theory.proofs.Bridge.{Among, row-of-kid}
+
+-- the weight of a forest whose nodes weigh w
+abbrev pub weigh : (Tag → ℕ) → Forest Tag → ℕ
+weigh w bare = 0
+weigh w (tree a k r) = w a + (weigh w k + weigh w r)
+
+abbrev pub bit : Bool → ℕ
+bit false = 0
+bit true = 1
+
+-- the number of nodes that are so
+abbrev pub count : (Tag → Bool) → Forest Tag → ℕ
+count q f = weigh (λ a. bit (q a)) f
+
+-- ------------------------------------------------------------------ sums
+-- g over the numbers of a list
+abbrev sumOver : (ℕ → ℕ) → List ℕ → ℕ
+sumOver g [] = 0
+sumOver g (j ∷ js) = g j + sumOver g js
+
+-- g over the n numbers from j on
+abbrev sumFrom : (ℕ → ℕ) → ℕ → ℕ → ℕ
+sumFrom g j zero = 0
+sumFrom g j (suc n) = g j + sumFrom g (suc j) n
+
+sum-zero : (j n : ℕ) → sumFrom (λ _. 0) j n ≡ 0
+sum-zero j zero = refl
+sum-zero j (suc n) = let z = sum-zero (suc j) n in omega arith
+
+sum-one : (j n : ℕ) → sumFrom (λ _. 1) j n ≡ n
+sum-one j zero = refl
+sum-one j (suc n) = let z = sum-one (suc j) n in omega arith
+
+sum-same : (f g : ℕ → ℕ) (j n : ℕ) → ((i : ℕ) → j ≤ i → i < j + n → f i ≡ g i) → sumFrom f j n ≡ sumFrom g j n
+sum-same f g j zero e = refl
+sum-same f g j (suc n) e = let x = e j (omega arith) (omega arith) in let y = sum-same f g (suc j) n (λ i lo hi. e i (omega arith) (omega arith)) in omega arith
+
+sum-add : (f g : ℕ → ℕ) (j n : ℕ) → sumFrom (λ i. f i + g i) j n ≡ sumFrom f j n + sumFrom g j n
+sum-add f g j zero = refl
+sum-add f g j (suc n) = let z = sum-add f g (suc j) n in omega arith
+
+-- f is x more than g at p and the same elsewhere
+sum-more : (f g : ℕ → ℕ) (p x : ℕ) → f p ≡ x + g p → ((i : ℕ) → i ≢ p → f i ≡ g i) → (j n : ℕ) → j ≤ p → p < j + n → sumFrom f j n ≡ x + sumFrom g j n
+sum-more f g p x hit miss j zero lo hi = absurd (omega arith)
+sum-more f g p x hit miss j (suc n) lo hi = go (ℕ-discrete j p) (λ lo′. sum-more f g p x hit miss (suc j) n lo′ (omega arith))
+  where
+    go : Dec (j ≡ p) → (suc j ≤ p → sumFrom f (suc j) n ≡ x + sumFrom g (suc j) n) → sumFrom f j (suc n) ≡ x + sumFrom g j (suc n)
+    go (yes e) ih =
+        let y : f j ≡ x + g j = subst (λ z. f z ≡ x + g z) (sym e) hit in
+        let z = sum-same f g (suc j) n (λ i lo′ hi′. miss i (λ e′. omega arith)) in omega arith
+    go (no ne) ih = let y = miss j ne in let z = ih (omega arith) in omega arith
+
+-- ------------------------------------------------------------------ every row but the top is a child of one row
+-- the rows of C, numbered from b on, whose parents are below N
+partition : (g : ℕ → ℕ) (N : ℕ) (C : Table) (b : ℕ) → ((i p : ℕ) (l : Lab) → at C i ≡ some (node (some p) l) → p < N)
+    → sumFrom g b (length C) ≡ sumOver g (kidsFrom none C b) + sumFrom (λ p. sumOver g (kidsFrom (some p) C b)) 0 N
+partition g N [] b below = let z = sum-zero 0 N in omega arith
+partition g N (node none l ∷ C) b below = let z = partition g N C (suc b) (λ i. below (suc i)) in omega arith
+partition g N (node (some q) l ∷ C) b below =
+    let y = partition g N C (suc b) (λ i. below (suc i)) in
+    let z = sum-more with-b without-b q (g b) (hit (ℕ-discrete q q)) (λ p ne. miss p ne (ℕ-discrete p q)) 0 N (omega arith) (let lt = below 0 q l refl in omega arith) in
+    omega arith
+  where
+    without-b : ℕ → ℕ
+    without-b p = sumOver g (kidsFrom (some p) C (suc b))
+
+    with-b : ℕ → ℕ
+    with-b p = sumOver g (kidsFrom (some p) (node (some q) l ∷ C) b)
+
+    hit : (c : Dec (q ≡ q)) → sumOver g (choose (is c) b (kidsFrom (some q) C (suc b))) ≡ g b + without-b q
+    hit (yes e) = refl
+    hit (no ne) = absurd (ne refl)
+
+    miss : (p : ℕ) → p ≢ q → (c : Dec (p ≡ q)) → sumOver g (choose (is c) b (kidsFrom (some p) C (suc b))) ≡ without-b p
+    miss p ne (yes e) = absurd (ne e)
+    miss p ne (no ne′) = refl
+
+-- ------------------------------------------------------------------ the weight of the tree
+weigh-plant : (w : Tag → ℕ) (tag : ℕ → Tag) (f : ℕ → Forest Tag) (js : List ℕ) → weigh w (plant tag f js) ≡ sumOver (λ j. w (tag j) + weigh w (f j)) js
+weigh-plant w tag f [] = refl
+weigh-plant w tag f (j ∷ js) = let z = weigh-plant w tag f js in omega arith
+
+plant-same : (tag : ℕ → Tag) (f g : ℕ → Forest Tag) (js : List ℕ) → ((j : ℕ) → Among j js → f j ≡ g j) → plant tag f js ≡ plant tag g js
+plant-same tag f g [] e = refl
+plant-same tag f g (j ∷ js) e = let x = e j (inl refl) in let y = plant-same tag f g js (λ i c. e i (inr c)) in cc
+
+-- a row's number is below the length, and there is a row at each such number
+live-of-lt : (T : Table) (i : ℕ) → i < length T → Live T i
+live-of-lt [] i lt = absurd (omega arith)
+live-of-lt (node u l ∷ T) zero lt = (u, l, refl)
+live-of-lt (r ∷ T) (suc i) lt = live-of-lt T i (omega arith)
+
+module _ (Q : Query) (q : TreeQuery Q) where
+  -- as many rounds as rows are enough
+  grow-enough : (f i : ℕ) → Live (Q .rows) i → nodes Q ≤ f + q .tree .lev i → grow f Q i ≡ grow (suc f) Q i
+  grow-enough zero i li le = let lt = lev-lt (Q .rows) (q .tree) i li in absurd (omega arith)
+  grow-enough (suc f) i li le =
+      plant-same (tagOf Q) (grow f Q) (grow (suc f) Q) (kidsFrom (some i) (Q .rows) 0) (λ j c.
+      let w = row-of-kid (some i) (Q .rows) j c in
+      let o : q .tree .lev j ≡ suc (q .tree .lev i) = (q .tree .linked j i (w .0) (w .1)) .1 in
+      grow-enough f j (some i, w .0, w .1) (omega arith))
+
+  -- the tree weighs what the rows weigh
+  weigh-tree : (w : Tag → ℕ) → weigh w (treeOf Q) ≡ sumFrom (λ i. w (tagOf Q i)) 0 (nodes Q)
+  weigh-tree w =
+      let p = partition below (nodes Q) (Q .rows) 0 (λ i p l e. let lp = (q .tree .linked i p l e) .0 in look-lt (Q .rows) p (node (lp .0) (lp .1)) (lp .2)) in
+      let s = sum-add (λ i. w (tagOf Q i)) (λ i. weigh w (grow (nodes Q) Q i)) 0 (nodes Q) in
+      let t = weigh-plant w (tagOf Q) (grow (nodes Q) Q) (kidsFrom none (Q .rows) 0) in
+      let e = sum-same (λ i. weigh w (grow (nodes Q) Q i)) (λ i. sumOver below (kidsFrom (some i) (Q .rows) 0)) 0 (nodes Q) (λ i lo hi. next i (omega arith)) in
+      omega arith
+    where
+      -- a row with all below it
+      below : ℕ → ℕ
+      below j = w (tagOf Q j) + weigh w (grow (nodes Q) Q j)
+
+      next : (i : ℕ) → i < nodes Q → weigh w (grow (nodes Q) Q i) ≡ sumOver below (kidsFrom (some i) (Q .rows) 0)
+      next i lt = ap (weigh w) (grow-enough (nodes Q) i (live-of-lt (Q .rows) i lt) (omega arith)) ∙ weigh-plant w (tagOf Q) (grow (nodes Q) Q) (kidsFrom (some i) (Q .rows) 0)
+
+-- ------------------------------------------------------------------ nodes, s and d
+size-weigh : (f : Forest Tag) → size f ≡ weigh (λ _. 1) f
+size-weigh bare = refl
+size-weigh (tree a k r) = let x = size-weigh k in let y = size-weigh r in omega arith
+
+-- the tree has a node for each row
+pub size-tree : (Q : Query) → TreeQuery Q → size (treeOf Q) ≡ nodes Q
+size-tree Q q = size-weigh (treeOf Q) ∙ weigh-tree Q q (λ _. 1) ∙ sum-one 0 (nodes Q)
+
+-- one row has number s
+sum-is : (T : Table) (s : ℕ) → Live T s → sumFrom (λ i. bit (is (ℕ-discrete i s))) 0 (length T) ≡ 1
+sum-is T s (u, l, e) =
+    let lt = look-lt T s (node u l) e in
+    let x = sum-more (λ i. bit (is (ℕ-discrete i s))) (λ _. 0) s 1 (hit (ℕ-discrete s s)) (λ i ne. miss i ne (ℕ-discrete i s)) 0 (length T) (omega arith) (omega arith) in
+    let z = sum-zero 0 (length T) in omega arith
+  where
+    hit : (c : Dec (s ≡ s)) → bit (is c) ≡ 1 + 0
+    hit (yes p) = refl
+    hit (no np) = absurd (np refl)
+
+    miss : (i : ℕ) → i ≢ s → (c : Dec (i ≡ s)) → bit (is c) ≡ 0
+    miss i ne (yes p) = absurd (ne p)
+    miss i ne (no np) = refl
+
+-- "with a source s and a destination d": one node of the tree is s, one is d
+pub one-source : (Q : Query) → TreeQuery Q → count (λ a. a .src) (treeOf Q) ≡ 1
+one-source Q q = weigh-tree Q q (λ a. bit (a .src)) ∙ sum-is (Q .rows) (Q .s) (q .sLive)
+
+pub one-dest : (Q : Query) → TreeQuery Q → count (λ a. a .dst) (treeOf Q) ≡ 1
+one-dest Q q = weigh-tree Q q (λ a. bit (a .dst)) ∙ sum-is (Q .rows) (Q .d) (q .dLive)
