@@ -13,6 +13,7 @@ use Rattle.meaning.specs.Basics.{pick, is}
 use Rattle.meaning.specs.Document.{Doc, In, Child, labelOf}
 use Rattle.meaning.specs.TreeQuery.{Lab, Row, node, Table, at, Query, Live, TreeQuery, Fits, RowKept, Laying, Selects}
 use Rattle.meaning.specs.Tree.{Forest, bare, tree, Tag, kidsFrom, labRow, tagOf, plant, grow, treeOf, Under, Lays, MarkOn, OnPair, Takes}
+use Rattle.theory.proofs.Look.{never}
 use Rattle.theory.proofs.Levels.{root-lev, lev-lt}
 use Rattle.theory.proofs.Bridge.{Among, true-is, kid-of-row, tree-takes}
 
@@ -132,7 +133,7 @@ module _ (D : Doc) (m n : ℕ) (Q : Query) (q : TreeQuery Q) (places : Forest �
   -- a marked node lies on its node of the pair
   mark-of : (i m′ : ℕ) (t : Bool) → t ≡ true → MarkOn t (h i) m′ → h i ≡ m′
   mark-of i m′ true e x = x
-  mark-of i m′ false e x = let z : _≡_ {A = ℕ} 0 1 = cc in absurd (omega arith)
+  mark-of i m′ false e x = never cc
 
   table-selects : Selects Q D m n
   table-selects = go (q .sLive) (q .dLive)

@@ -13,6 +13,7 @@ use Rattle.meaning.specs.Basics.{is}
 use Rattle.meaning.specs.Document.{Doc}
 use Rattle.meaning.specs.TreeQuery.{Lab, Row, node, Table, at, Query, Root, TreeQuery, RowKept, Laying}
 use Rattle.meaning.specs.Tree.{Forest, bare, tree, Tag, sameLink, linkIs, choose, kidsFrom, tagOf, plant, grow, treeOf, Under, Lays, MarkOn, OnPair, Takes}
+use Rattle.theory.proofs.Look.{never}
 use Rattle.theory.proofs.Levels.{top-root}
 
 -- ------------------------------------------------------------------ the children of a row
@@ -23,7 +24,7 @@ Among j (i ∷ js) = (i ≡ j) ⊎ Among j js
 
 pub is-true : {P : Type 0} (d : Dec P) → is d ≡ true → P
 is-true (yes p) e = p
-is-true (no n) e = let z : _≡_ {A = ℕ} 0 1 = cc in absurd (omega arith)
+is-true (no n) e = never cc
 
 pub true-is : {P : Type 0} (d : Dec P) → P → is d ≡ true
 true-is (yes p) q = refl
@@ -31,8 +32,8 @@ true-is (no n) q = absurd (n q)
 
 same-link : (u v : Option ℕ) → sameLink u v ≡ true → u ≡ v
 same-link none none e = refl
-same-link none (some j) e = let z : _≡_ {A = ℕ} 0 1 = cc in absurd (omega arith)
-same-link (some i) none e = let z : _≡_ {A = ℕ} 0 1 = cc in absurd (omega arith)
+same-link none (some j) e = never cc
+same-link (some i) none e = never cc
 same-link (some i) (some j) e = ap some (is-true (ℕ-discrete i j) e)
 
 link-same : (u : Option ℕ) → sameLink u u ≡ true
@@ -57,7 +58,7 @@ kids-sound u (node v l ∷ T) b j x = go (kids-sound u T (suc b) j) (sameLink u 
     go ih false e y = next (ih y)
 
 kids-complete : (u : Option ℕ) (T : Table) (b i : ℕ) → ChildRow T u i → Among (b + i) (kidsFrom u T b)
-kids-complete u [] b i (l, e) = let z : _≡_ {A = ℕ} 0 1 = cc in absurd (omega arith)
+kids-complete u [] b i (l, e) = never cc
 kids-complete u (node v k ∷ T) b zero (l, e) =
     let q : v ≡ u = cc in subst (λ z. Among (b + 0) (choose (sameLink u z) b (kidsFrom u T (suc b)))) (sym q) (rw (link-same u) (inl (omega arith)))
 kids-complete u (node v k ∷ T) b (suc i) c = go (sameLink u v) (subst (λ z. Among z (kidsFrom u T (suc b))) (let q : suc b + i ≡ b + suc i = omega arith in q) (kids-complete u T (suc b) i c))
@@ -100,7 +101,7 @@ one-top Q q =
 
 -- a tree with a node takes what lays it
 takes-of-lays : (f : Forest Tag) → (a : Tag) × (k : Forest Tag) × (f ≡ tree a k bare) → (D : Doc) (m n : ℕ) → Lays D (OnPair D m n) f none → Takes f D m n
-takes-of-lays bare (a, k, e) D m n x = let z : _≡_ {A = ℕ} 0 1 = cc in absurd (omega arith)
+takes-of-lays bare (a, k, e) D m n x = never cc
 takes-of-lays (tree b j r) w D m n x = x
 
 -- ------------------------------------------------------------------ from the table to the tree

@@ -3,19 +3,13 @@
 use mathlib.Core.Path.{_≡_, refl, sym, ap, subst, _∙_}
 use mathlib.Core.Logic.{_≢_}
 use mathlib.Core.Option.{Option, none, some}
-use mathlib.Core.List.{List, [], _∷_}
 use Prim.Native.Nat.{ℕ, zero, suc, _≤_, _<_}
 use native.Mathlib.Decide.{ℕ-discrete, decLt}
 use native.Mathlib.Omega.{arith}
 use lib.ListN.{length}
-use Rattle.meaning.specs.Basics.{pick, look}
-use Rattle.meaning.specs.TreeQuery.{Lab, Row, node, Table, at, Live, Root, Tree}
-
--- an entry stands below the length
-pub look-lt : {A : Type 0} (xs : List A) (i : ℕ) (x : A) → look xs i ≡ some x → i < length xs
-look-lt [] i x e = let z : _≡_ {A = ℕ} 0 1 = cc in absurd (omega arith)
-look-lt (y ∷ xs) zero x e = omega arith
-look-lt (y ∷ xs) (suc i) x e = let z = look-lt xs i x e in omega arith
+use Rattle.meaning.specs.Basics.{pick}
+use Rattle.meaning.specs.TreeQuery.{Lab, node, Table, at, Live, Root, Tree}
+use Rattle.theory.proofs.Look.{live-lt}
 
 -- a function that takes each value up to K on the n numbers below n: K is below n
 hits-lt : (n K : ℕ) (f : ℕ → ℕ) → ((k : ℕ) → k ≤ K → (i : ℕ) × (i < n) × (f i ≡ k)) → K < n
@@ -59,7 +53,7 @@ module _ (T : Table) (t : Tree T) where
   -- a tree has fewer levels than rows
   pub lev-lt : (i : ℕ) → Live T i → t .lev i < length T
   lev-lt i li = hits-lt (length T) (t .lev i) (t .lev) (λ k le.
-      let w = row-of-level (t .lev i) i k li refl le in (w .0, look-lt T (w .0) (node (w .1 .0) (w .1 .1)) (w .1 .2), w .2))
+      let w = row-of-level (t .lev i) i k li refl le in (w .0, live-lt T (w .0) (w .1), w .2))
 
   -- where there is a row there is a top
   pub top-root : (i : ℕ) → Live T i → Root T (t .top)

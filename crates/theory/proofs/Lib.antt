@@ -1,5 +1,8 @@
 -- The theorems. Index lists the final statements; each other file proves what its name says.
 pub mod Cases
+pub mod Count
+pub mod Ways
+pub mod Look
 pub mod Levels
 pub mod Bridge
 pub mod Back

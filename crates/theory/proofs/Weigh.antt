@@ -1,9 +1,9 @@
--- Every row of a tree query stands once in the tree that is read off it: whatever the nodes weigh, the tree weighs what the rows weigh.
+-- Every row of a tree query stands once in the tree that is read off it: whatever is counted, the tree has as many such nodes as the table has such rows.
 -- So the tree has as many nodes as the table has rows, and one node is s and one is d.
 use mathlib.Core.Path.{_≡_, refl, sym, ap, subst, _∙_}
 use mathlib.Core.Logic.{_≢_, inl, inr}
 use mathlib.Core.Option.{Option, none, some}
-use mathlib.Core.Bool.{Bool, true, false}
+use mathlib.Core.Bool.{Bool, true, cond}
 use mathlib.Core.List.{List, [], _∷_}
 use Prim.Native.Nat.{ℕ, zero, suc, _+_, _≤_, _<_}
 use native.Mathlib.Decide.{ℕ-discrete}
@@ -12,21 +12,10 @@ use lib.ListN.{length}
 use Rattle.meaning.specs.Basics.{is}
 use Rattle.meaning.specs.TreeQuery.{Lab, Row, node, Table, at, Query, nodes, Live, TreeQuery}
 use Rattle.meaning.specs.Tree.{Forest, bare, tree, Tag, size, choose, kidsFrom, tagOf, plant, grow, treeOf}
-use Rattle.theory.proofs.Levels.{look-lt, lev-lt}
+use Rattle.theory.proofs.Count.{count, src, dst, size-count}
+use Rattle.theory.proofs.Look.{live-lt, lt-live}
+use Rattle.theory.proofs.Levels.{lev-lt}
 use Rattle.theory.proofs.Bridge.{Among, row-of-kid}
-
--- the weight of a forest whose nodes weigh w
-abbrev pub weigh : (Tag → ℕ) → Forest Tag → ℕ
-weigh w bare = 0
-weigh w (tree a k r) = w a + (weigh w k + weigh w r)
-
-abbrev pub bit : Bool → ℕ
-bit false = 0
-bit true = 1
-
--- the number of nodes that are so
-abbrev pub count : (Tag → Bool) → Forest Tag → ℕ
-count q f = weigh (λ a. bit (q a)) f
 
 -- ------------------------------------------------------------------ sums
 -- g over the numbers of a list
@@ -91,20 +80,14 @@ partition g N (node (some q) l ∷ C) b below =
     miss p ne (yes e) = absurd (ne e)
     miss p ne (no ne′) = refl
 
--- ------------------------------------------------------------------ the weight of the tree
-weigh-plant : (w : Tag → ℕ) (tag : ℕ → Tag) (f : ℕ → Forest Tag) (js : List ℕ) → weigh w (plant tag f js) ≡ sumOver (λ j. w (tag j) + weigh w (f j)) js
-weigh-plant w tag f [] = refl
-weigh-plant w tag f (j ∷ js) = let z = weigh-plant w tag f js in omega arith
+-- ------------------------------------------------------------------ counting in the tree, and in the table
+count-plant : (p : Tag → Bool) (tag : ℕ → Tag) (f : ℕ → Forest Tag) (js : List ℕ) → count p (plant tag f js) ≡ sumOver (λ j. cond (p (tag j)) 1 0 + count p (f j)) js
+count-plant p tag f [] = refl
+count-plant p tag f (j ∷ js) = let z = count-plant p tag f js in omega arith
 
 plant-same : (tag : ℕ → Tag) (f g : ℕ → Forest Tag) (js : List ℕ) → ((j : ℕ) → Among j js → f j ≡ g j) → plant tag f js ≡ plant tag g js
 plant-same tag f g [] e = refl
 plant-same tag f g (j ∷ js) e = let x = e j (inl refl) in let y = plant-same tag f g js (λ i c. e i (inr c)) in cc
-
--- a row's number is below the length, and there is a row at each such number
-live-of-lt : (T : Table) (i : ℕ) → i < length T → Live T i
-live-of-lt [] i lt = absurd (omega arith)
-live-of-lt (node u l ∷ T) zero lt = (u, l, refl)
-live-of-lt (r ∷ T) (suc i) lt = live-of-lt T i (omega arith)
 
 module _ (Q : Query) (q : TreeQuery Q) where
   -- as many rounds as rows are enough
@@ -116,49 +99,44 @@ module _ (Q : Query) (q : TreeQuery Q) where
       let o : q .tree .lev j ≡ suc (q .tree .lev i) = (q .tree .linked j i (w .0) (w .1)) .1 in
       grow-enough f j (some i, w .0, w .1) (omega arith))
 
-  -- the tree weighs what the rows weigh
-  weigh-tree : (w : Tag → ℕ) → weigh w (treeOf Q) ≡ sumFrom (λ i. w (tagOf Q i)) 0 (nodes Q)
-  weigh-tree w =
-      let p = partition below (nodes Q) (Q .rows) 0 (λ i p l e. let lp = (q .tree .linked i p l e) .0 in look-lt (Q .rows) p (node (lp .0) (lp .1)) (lp .2)) in
-      let s = sum-add (λ i. w (tagOf Q i)) (λ i. weigh w (grow (nodes Q) Q i)) 0 (nodes Q) in
-      let t = weigh-plant w (tagOf Q) (grow (nodes Q) Q) (kidsFrom none (Q .rows) 0) in
-      let e = sum-same (λ i. weigh w (grow (nodes Q) Q i)) (λ i. sumOver below (kidsFrom (some i) (Q .rows) 0)) 0 (nodes Q) (λ i lo hi. next i (omega arith)) in
+  count-tree : (p : Tag → Bool) → count p (treeOf Q) ≡ sumFrom (λ i. cond (p (tagOf Q i)) 1 0) 0 (nodes Q)
+  count-tree p =
+      let y = partition below (nodes Q) (Q .rows) 0 (λ i u l e. live-lt (Q .rows) u ((q .tree .linked i u l e) .0)) in
+      let s = sum-add (λ i. cond (p (tagOf Q i)) 1 0) (λ i. count p (grow (nodes Q) Q i)) 0 (nodes Q) in
+      let t = count-plant p (tagOf Q) (grow (nodes Q) Q) (kidsFrom none (Q .rows) 0) in
+      let e = sum-same (λ i. count p (grow (nodes Q) Q i)) (λ i. sumOver below (kidsFrom (some i) (Q .rows) 0)) 0 (nodes Q) (λ i lo hi. next i (omega arith)) in
       omega arith
     where
       -- a row with all below it
       below : ℕ → ℕ
-      below j = w (tagOf Q j) + weigh w (grow (nodes Q) Q j)
+      below j = cond (p (tagOf Q j)) 1 0 + count p (grow (nodes Q) Q j)
 
-      next : (i : ℕ) → i < nodes Q → weigh w (grow (nodes Q) Q i) ≡ sumOver below (kidsFrom (some i) (Q .rows) 0)
-      next i lt = ap (weigh w) (grow-enough (nodes Q) i (live-of-lt (Q .rows) i lt) (omega arith)) ∙ weigh-plant w (tagOf Q) (grow (nodes Q) Q) (kidsFrom (some i) (Q .rows) 0)
+      next : (i : ℕ) → i < nodes Q → count p (grow (nodes Q) Q i) ≡ sumOver below (kidsFrom (some i) (Q .rows) 0)
+      next i lt = ap (count p) (grow-enough (nodes Q) i (lt-live (Q .rows) i lt) (omega arith)) ∙ count-plant p (tagOf Q) (grow (nodes Q) Q) (kidsFrom (some i) (Q .rows) 0)
 
 -- ------------------------------------------------------------------ nodes, s and d
-size-weigh : (f : Forest Tag) → size f ≡ weigh (λ _. 1) f
-size-weigh bare = refl
-size-weigh (tree a k r) = let x = size-weigh k in let y = size-weigh r in omega arith
-
 -- the tree has a node for each row
 pub size-tree : (Q : Query) → TreeQuery Q → size (treeOf Q) ≡ nodes Q
-size-tree Q q = size-weigh (treeOf Q) ∙ weigh-tree Q q (λ _. 1) ∙ sum-one 0 (nodes Q)
+size-tree Q q = size-count (treeOf Q) ∙ count-tree Q q (λ _. true) ∙ sum-one 0 (nodes Q)
 
 -- one row has number s
-sum-is : (T : Table) (s : ℕ) → Live T s → sumFrom (λ i. bit (is (ℕ-discrete i s))) 0 (length T) ≡ 1
-sum-is T s (u, l, e) =
-    let lt = look-lt T s (node u l) e in
-    let x = sum-more (λ i. bit (is (ℕ-discrete i s))) (λ _. 0) s 1 (hit (ℕ-discrete s s)) (λ i ne. miss i ne (ℕ-discrete i s)) 0 (length T) (omega arith) (omega arith) in
+sum-is : (T : Table) (s : ℕ) → Live T s → sumFrom (λ i. cond (is (ℕ-discrete i s)) 1 0) 0 (length T) ≡ 1
+sum-is T s live =
+    let lt = live-lt T s live in
+    let x = sum-more (λ i. cond (is (ℕ-discrete i s)) 1 0) (λ _. 0) s 1 (hit (ℕ-discrete s s)) (λ i ne. miss i ne (ℕ-discrete i s)) 0 (length T) (omega arith) (omega arith) in
     let z = sum-zero 0 (length T) in omega arith
   where
-    hit : (c : Dec (s ≡ s)) → bit (is c) ≡ 1 + 0
+    hit : (c : Dec (s ≡ s)) → _≡_ {A = ℕ} (cond (is c) 1 0) (1 + 0)
     hit (yes p) = refl
     hit (no np) = absurd (np refl)
 
-    miss : (i : ℕ) → i ≢ s → (c : Dec (i ≡ s)) → bit (is c) ≡ 0
+    miss : (i : ℕ) → i ≢ s → (c : Dec (i ≡ s)) → _≡_ {A = ℕ} (cond (is c) 1 0) 0
     miss i ne (yes p) = absurd (ne p)
     miss i ne (no np) = refl
 
 -- "with a source s and a destination d": one node of the tree is s, one is d
-pub one-source : (Q : Query) → TreeQuery Q → count (λ a. a .src) (treeOf Q) ≡ 1
-one-source Q q = weigh-tree Q q (λ a. bit (a .src)) ∙ sum-is (Q .rows) (Q .s) (q .sLive)
+pub one-source : (Q : Query) → TreeQuery Q → count src (treeOf Q) ≡ 1
+one-source Q q = count-tree Q q src ∙ sum-is (Q .rows) (Q .s) (q .sLive)
 
-pub one-dest : (Q : Query) → TreeQuery Q → count (λ a. a .dst) (treeOf Q) ≡ 1
-one-dest Q q = weigh-tree Q q (λ a. bit (a .dst)) ∙ sum-is (Q .rows) (Q .d) (q .dLive)
+pub one-dest : (Q : Query) → TreeQuery Q → count dst (treeOf Q) ≡ 1
+one-dest Q q = count-tree Q q dst ∙ sum-is (Q .rows) (Q .d) (q .dLive)
