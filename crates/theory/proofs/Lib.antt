@@ -7,3 +7,4 @@ pub mod Levels
 pub mod Bridge
 pub mod Back
 pub mod Weigh
+pub mod Entries
