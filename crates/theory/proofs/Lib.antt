@@ -7,4 +7,5 @@ pub mod Levels
 pub mod Bridge
 pub mod Back
 pub mod Weigh
+pub mod Labels
 pub mod Entries
