@@ -9,3 +9,4 @@ pub mod Back
 pub mod Weigh
 pub mod Labels
 pub mod Entries
+pub mod Canon
