@@ -1,2 +1,4 @@
 -- The theorems. Index lists the final statements; each other file proves what its name says.
 pub mod Cases
+pub mod Look
+pub mod Gluing
