@@ -2,3 +2,5 @@
 pub mod Cases
 pub mod Look
 pub mod Gluing
+pub mod Depth
+pub mod Join
