@@ -10,3 +10,6 @@ pub mod Weigh
 pub mod Labels
 pub mod Entries
 pub mod Canon
+pub mod Gluing
+pub mod Depth
+pub mod Join
