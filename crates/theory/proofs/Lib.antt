@@ -13,3 +13,7 @@ pub mod Canon
 pub mod Gluing
 pub mod Depth
 pub mod Join
+pub mod Folding
+pub mod Removal
+pub mod Minimal
+pub mod Unique
