@@ -1,3 +1,4 @@
+<<<<<<< HEAD
 -- Where the labels of a tree come from: each is a label of some row, and folding and ordering bring no new one.
 use mathlib.Core.Path.{_≡_, refl}
 use mathlib.Core.Option.{Option, none, some}
@@ -11,10 +12,33 @@ use Rattle.meaning.specs.Image.{recordOf, records, LeL, decL, place, ordered}
 use lib.ListN.{length}
 
 -- what a node bears is a wildcard, or a label that is so
+=======
+-- Which labels an expression and a tree bear.
+use Prim.Native.Nat.{ℕ}
+use Rattle.meaning.specs.Expression.{Expr, empty, self, child, parent, label, comp, inter, proj1, proj2, inv}
+use Rattle.meaning.specs.TreeQuery.{Lab, any, lab}
+use Rattle.meaning.specs.Tree.{Forest, bare, tree, Tag}
+
+-- every label of the expression is so
+abbrev pub LabelsIn : (ℕ → Type 0) → Expr → Type 0
+LabelsIn P empty = Unit {0}
+LabelsIn P self = Unit {0}
+LabelsIn P child = Unit {0}
+LabelsIn P parent = Unit {0}
+LabelsIn P (label l) = P l
+LabelsIn P (comp e f) = LabelsIn P e × LabelsIn P f
+LabelsIn P (inter e f) = LabelsIn P e × LabelsIn P f
+LabelsIn P (proj1 e) = LabelsIn P e
+LabelsIn P (proj2 e) = LabelsIn P e
+LabelsIn P (inv e) = LabelsIn P e
+
+-- a wildcard bears none
+>>>>>>> normal
 abbrev pub LabIn : (ℕ → Type 0) → Lab → Type 0
 LabIn P any = Unit {0}
 LabIn P (lab l) = P l
 
+<<<<<<< HEAD
 abbrev pub LabsIn : (ℕ → Type 0) → Forest Tag → Type 0
 LabsIn P bare = Unit {0}
 LabsIn P (tree a k r) = LabIn P (a .lab) × LabsIn P k × LabsIn P r
@@ -73,3 +97,9 @@ module _ (P : ℕ → Type 0) where
   pub ordered-labels : (f : Forest Tag) → LabsIn P f → LabsIn P (ordered f)
   ordered-labels bare x = tt
   ordered-labels (tree a k r) (x, y, z) = place-labels a (ordered k) (ordered r) (x, ordered-labels k y, ordered-labels r z)
+=======
+-- every label of the forest is so
+abbrev pub LabsIn : (ℕ → Type 0) → Forest Tag → Type 0
+LabsIn P bare = Unit {0}
+LabsIn P (tree a k r) = LabIn P (a .lab) × LabsIn P k × LabsIn P r
+>>>>>>> normal

@@ -1,13 +1,13 @@
 -- The theorems. Index lists the final statements; each other file proves what its name says.
 pub mod Cases
 pub mod Count
+pub mod Labels
 pub mod Ways
 pub mod Look
 pub mod Levels
 pub mod Bridge
 pub mod Back
 pub mod Weigh
-pub mod Labels
 pub mod Entries
 pub mod Canon
 pub mod Gluing
@@ -17,3 +17,7 @@ pub mod Folding
 pub mod Removal
 pub mod Minimal
 pub mod Unique
+pub mod Normal
+pub mod Steps
+pub mod Factors
+pub mod Operands

@@ -9,9 +9,9 @@ use Prim.Native.Nat.{ℕ, _+_, _≤_}
 use native.Mathlib.Omega.{arith}
 use Rattle.meaning.specs.Document.{Doc}
 use Rattle.meaning.specs.Expression.{Expr, child}
-use Rattle.meaning.specs.Tree.{Forest, bare, tree, Tag, Lays}
+use Rattle.meaning.specs.Tree.{Forest, bare, tree, Tag, size, Lays}
 use Rattle.meaning.specs.Normal.{labelled, branch, onward, chains, inTree, srcIn, dstIn, bothIn, eitherIn, someTree, off}
-use Rattle.theory.proofs.Count.{count, src, dst, Tells, in-tells}
+use Rattle.theory.proofs.Count.{bit, count, src, dst, marks, size-count, Tells, in-tells}
 
 -- the trees that are so
 abbrev pub on : (Tag → Forest Tag → Bool) → Forest Tag → Forest Tag
@@ -45,6 +45,11 @@ count-ways q p (tree b j r) = go (p b j) (count-ways q p r)
     go true ih = omega arith
     go false ih = omega arith
 
+pub size-ways : (p : Tag → Forest Tag → Bool) (k : Forest Tag) → size k ≡ size (on p k) + size (aside p k)
+size-ways p k =
+    let x = size-count k in let y = size-count (on p k) in let z = size-count (aside p k) in
+    let w = count-ways (λ _. true) p k in omega arith
+
 pub lays-ways : (D : Doc) (On : Tag → ℕ → Type 0) (p : Tag → Forest Tag → Bool) (k : Forest Tag) (v : Option ℕ)
     → Lays D On k v ↔ (Lays D On (on p k) v × Lays D On (aside p k) v)
 lays-ways D On p bare v = (λ _. (tt, tt), λ _. tt)
@@ -61,7 +66,7 @@ pub aside-count : (q : Tag → Bool) (k : Forest Tag) → count q (aside (inTree
 aside-count q bare = refl
 aside-count q (tree b j r) = go (inTree q b j) (in-tells q b j) (aside-count q r)
   where
-    go : (x : Bool) → Tells x (cond (q b) 1 0 + count q j) → count q (aside (inTree q) r) ≡ 0
+    go : (x : Bool) → Tells x (bit (q b) + count q j) → count q (aside (inTree q) r) ≡ 0
         → count q (cond x (aside (inTree q) r) (tree b j (aside (inTree q) r))) ≡ 0
     go true t ih = ih
     go false t ih = omega arith
@@ -73,7 +78,7 @@ on-none q p h bare e = refl
 on-none q p h (tree b j r) e = go (p b j) refl (on-none q p h r (omega arith))
   where
     go : (x : Bool) → p b j ≡ x → on p r ≡ bare → cond x (tree b j (on p r)) (on p r) ≡ bare
-    go true y ih = let z = subst (λ x. Tells x (cond (q b) 1 0 + count q j)) (h b j y) (in-tells q b j) in absurd (omega arith)
+    go true y ih = let z = subst (λ x. Tells x (bit (q b) + count q j)) (h b j y) (in-tells q b j) in absurd (omega arith)
     go false y ih = ih
 
 -- ------------------------------------------------------------------ the ways to both
@@ -104,21 +109,50 @@ on-dst (tree b j r) e = go (srcIn b j) (dstIn b j) refl e (λ e′. on-dst r e�
     go true false d z ih = ih z
     go false y d z ih = ap (λ x. cond x (tree b j (on dstIn A)) (on dstIn A)) d ∙ ap (λ l. cond y (tree b j l) l) (ih z)
 
+-- then each way holds its own mark alone, and off both there is none
+pub either-counts : (k : Forest Tag) → someTree bothIn k ≡ false
+    → (count dst (on srcIn k) ≡ 0) × (count src (on dstIn k) ≡ 0) × (marks (aside eitherIn k) ≡ 0)
+either-counts k e =
+    let A : Forest Tag = aside srcIn k in
+    let o = on-dst k e in
+    let os = ap (count src) o in let od = ap (count dst) o in let oa = ap marks (aside-either k) in
+    let s = aside-count src k in let s₁ = count-ways src dstIn A in
+    let d = aside-count dst k in let d₁ = aside-count dst A in let d₂ = count-ways dst srcIn k in let d₃ = count-ways dst dstIn k in let d₄ = count-ways dst dstIn A in
+    (omega arith, omega arith, omega arith)
+
 and-left : (x y : Bool) → (x && y) ≡ true → x ≡ true
 and-left true y e = refl
 and-left false y e = e
 
 -- where a tree holds both marks, it alone does
-pub on-both : (k : Forest Tag) → count src k ≤ 1 → someTree bothIn k ≡ true
-    → (b : Tag) × (j : Forest Tag) × (on bothIn k ≡ tree b j bare) × (1 ≤ count src (tree b j bare)) × (1 ≤ count dst (tree b j bare))
-on-both bare s e = let o : _≡_ {A = ℕ} 0 1 = cc in absurd (omega arith)
-on-both (tree b j r) s e = go (srcIn b j) (dstIn b j) (in-tells src b j) (in-tells dst b j) e (λ s′ e′. on-both r s′ e′)
+pub on-both : (k : Forest Tag) → count src k ≤ 1 → count dst k ≤ 1 → someTree bothIn k ≡ true
+    → (b : Tag) × (j : Forest Tag) × (on bothIn k ≡ tree b j bare) × (count src k ≡ 1) × (count dst k ≡ 1) × (marks (aside bothIn k) ≡ 0)
+on-both bare s d e = let o : _≡_ {A = ℕ} 0 1 = cc in absurd (omega arith)
+on-both (tree b j r) s d e = go (srcIn b j) (dstIn b j) (in-tells src b j) (in-tells dst b j) e (on-both r (omega arith) (omega arith))
   where
-    Both : Forest Tag → Type 0
-    Both f = (c : Tag) × (i : Forest Tag) × (f ≡ tree c i bare) × (1 ≤ count src (tree c i bare)) × (1 ≤ count dst (tree c i bare))
+    Alone : Bool → Type 0
+    Alone x = (c : Tag) × (i : Forest Tag) × (cond x (tree b j (on bothIn r)) (on bothIn r) ≡ tree c i bare)
+        × (count src (tree b j r) ≡ 1) × (count dst (tree b j r) ≡ 1) × (marks (cond x (aside bothIn r) (tree b j (aside bothIn r))) ≡ 0)
 
-    go : (x y : Bool) → Tells x (cond (src b) 1 0 + count src j) → Tells y (cond (dst b) 1 0 + count dst j) → ((x && y) || someTree bothIn r) ≡ true
-        → (count src r ≤ 1 → someTree bothIn r ≡ true → Both (on bothIn r)) → Both (cond (x && y) (tree b j (on bothIn r)) (on bothIn r))
-    go true true t u z ih = (b, j, ap (tree b j) (on-none src bothIn (λ c i. and-left (srcIn c i) (dstIn c i)) r (omega arith)), omega arith, omega arith)
-    go true false t u z ih = ih (omega arith) z
-    go false y t u z ih = ih (omega arith) z
+    Later : Type 0
+    Later = (c : Tag) × (i : Forest Tag) × (on bothIn r ≡ tree c i bare) × (count src r ≡ 1) × (count dst r ≡ 1) × (marks (aside bothIn r) ≡ 0)
+
+    later : Later → Alone false
+    later (c, i, x, y, z, w) = (c, i, x, omega arith, omega arith, omega arith)
+
+    go : (x y : Bool) → Tells x (bit (src b) + count src j) → Tells y (bit (dst b) + count dst j) → ((x && y) || someTree bothIn r) ≡ true
+        → (someTree bothIn r ≡ true → Later) → Alone (x && y)
+    go true true t u z ih =
+        let v = count-ways src bothIn r in let w = count-ways dst bothIn r in
+        (b, j, ap (tree b j) (on-none src bothIn (λ c i. and-left (srcIn c i) (dstIn c i)) r (omega arith)), omega arith, omega arith, omega arith)
+    go true false t u z ih = later (ih z)
+    go false y t u z ih = later (ih z)
+
+-- a tree that has both marks holds them
+pub top-both : (a : Tag) (k : Forest Tag) → count src (tree a k bare) ≡ 1 → count dst (tree a k bare) ≡ 1 → bothIn a k ≡ true
+top-both a k s d = go (srcIn a k) (dstIn a k) (in-tells src a k) (in-tells dst a k)
+  where
+    go : (x y : Bool) → Tells x (bit (src a) + count src k) → Tells y (bit (dst a) + count dst k) → (x && y) ≡ true
+    go true true t u = refl
+    go true false t u = absurd (omega arith)
+    go false y t u = absurd (omega arith)
