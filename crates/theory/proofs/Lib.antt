@@ -2,6 +2,7 @@
 pub mod Cases
 pub mod Count
 pub mod Labels
+pub mod Order
 pub mod Ways
 pub mod Look
 pub mod Levels
