@@ -14,7 +14,7 @@ use Rattle.meaning.specs.Document.{Doc, In, Child, labelOf}
 use Rattle.meaning.specs.TreeQuery.{Lab, Row, node, Table, at, Query, Live, TreeQuery, Fits, RowKept, Laying, Selects}
 use Rattle.meaning.specs.Tree.{Forest, bare, tree, Tag, kidsFrom, labRow, tagOf, plant, grow, treeOf, Under, Lays, MarkOn, OnPair, Takes}
 use Rattle.theory.proofs.Look.{never}
-use Rattle.theory.proofs.Levels.{root-lev, lev-lt}
+use Rattle.theory.proofs.Levels.{root-level, level-bound}
 use Rattle.theory.proofs.Bridge.{Among, true-is, kid-of-row, tree-takes}
 
 -- ------------------------------------------------------------------ where a forest lies
@@ -93,7 +93,7 @@ module _ (D : Doc) (m n : ℕ) (Q : Query) (q : TreeQuery Q) (places : Forest �
   row-found : (k i : ℕ) (u : Option ℕ) (l : Lab) → at T i ≡ some (node u l) → lev i ≡ k → FoundRow k i u
   row-found zero i none l e ek = root-found i l e
   row-found zero i (some p) l e ek = let z : lev i ≡ suc (lev p) = (q .tree .linked i p l e) .1 in absurd (omega arith)
-  row-found (suc k) i none l e ek = let z = root-lev T (q .tree) i l e in absurd (omega arith)
+  row-found (suc k) i none l e ek = let z = root-level (q .tree) i (l, e) in absurd (omega arith)
   row-found (suc k) i (some p) l e ek = go (q .tree .linked i p l e) (λ v l′ e′ z. row-found k p v l′ e′ z)
     where
       below : (v : Option ℕ) → FoundRow k p v → LiesOn D (OnPair D m n) (grow (N - k) Q p) ((found k p) .1) (some ((found k p) .0))
@@ -102,7 +102,7 @@ module _ (D : Doc) (m n : ℕ) (Q : Query) (q : TreeQuery Q) (places : Forest �
 
       go : Live T p × (lev i ≡ suc (lev p)) → ((v : Option ℕ) (l′ : Lab) → at T p ≡ some (node v l′) → lev p ≡ k → FoundRow k p v) → FoundRow (suc k) i (some p)
       go ((v, l′, e′), o) ih =
-          let lt = lev-lt T (q .tree) i (some p, l, e) in
+          let lt = level-bound (q .tree) i (some p, l, e) in
           let z : suc k - 1 ≡ k = omega arith in
           rw z (kid-found k i p l e (omega arith) (below v (ih v l′ e′ (omega arith))))
 

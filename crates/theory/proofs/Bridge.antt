@@ -95,7 +95,7 @@ only-kid u (r ∷ T) b j only x = go (only-kid u T (suc b) j) (linkIs u r) only 
 -- the tree of a tree query has one top
 pub one-top : (Q : Query) → TreeQuery Q → (a : Tag) × (k : Forest Tag) × (treeOf Q ≡ tree a k bare)
 one-top Q q =
-    let r = top-root (Q .rows) (q .tree) (Q .s) (q .sLive) in
+    let r = top-root (q .tree) (Q .s) (q .sLive) in
     let e = only-kid none (Q .rows) 0 (q .tree .top) (λ i x. q .tree .single i (row-of-kid none (Q .rows) i x)) (kid-of-row none (Q .rows) (q .tree .top) (r .0) (r .1)) in
     (tagOf Q (q .tree .top), grow (length (Q .rows)) Q (q .tree .top), ap (plant (tagOf Q) (grow (length (Q .rows)) Q)) e)
 

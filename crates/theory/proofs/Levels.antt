@@ -33,31 +33,28 @@ hits-lt (suc n) (suc K) f hit = let z = hits-lt n K g (λ k le. go k le (hit k (
         side (yes p) (no ne) = (j, omega arith, kept k j (ℕ-discrete (f j) (suc K)) (λ _. sym (ap f p) ∙ ei) (λ z. absurd (z ej)))
         side (yes p) (yes q) = let z : f i ≡ f j = ap f (p ∙ sym q) in absurd (omega arith)
 
-module _ (T : Table) (t : Tree T) where
-  pub root-lev : (i : ℕ) (l : Lab) → at T i ≡ some (node none l) → t .lev i ≡ 0
-  root-lev i l e = ap (t .lev) (t .single i (l, e)) ∙ t .topLev
+module _ {T : Table} (t : Tree T) where
+  pub root-level : (i : ℕ) → Root T i → t .lev i ≡ 0
+  root-level i r = ap (t .lev) (t .single i r) ∙ t .topLev
 
-  -- above a row of level n there is a row of each level k ≤ n
-  row-of-level : (n i k : ℕ) → Live T i → t .lev i ≡ n → k ≤ n → (j : ℕ) × Live T j × (t .lev j ≡ k)
-  row-of-level zero i k li e le = (i, li, omega arith)
-  row-of-level (suc n) i k (none, l, ei) e le = let z = root-lev i l ei in absurd (omega arith)
-  row-of-level (suc n) i k (some p, l, ei) e le = go (ℕ-discrete k (suc n)) (t .linked i p l ei) (λ lp q. row-of-level n p k lp q)
+  -- above a row there is one at each level
+  ancestor : (n i : ℕ) → Live T i → t .lev i ≡ n → (k : ℕ) → k ≤ n → (j : ℕ) × Live T j × (t .lev j ≡ k)
+  ancestor zero i li e k le = (i, li, omega arith)
+  ancestor (suc n) i (none, l, ei) e k le = let z = root-level i (l, ei) in absurd (omega arith)
+  ancestor (suc n) i (some p, l, ei) e k le = go (t .linked i p l ei) (ancestor n p) (ℕ-discrete k (suc n))
     where
-      Row-at : Type 0
-      Row-at = (j : ℕ) × Live T j × (t .lev j ≡ k)
-
-      go : Dec (k ≡ suc n) → Live T p × (t .lev i ≡ suc (t .lev p)) → (Live T p → t .lev p ≡ n → k ≤ n → Row-at) → Row-at
-      go (yes q) o ih = (i, (some p, l, ei), omega arith)
-      go (no q) (lp, o) ih = ih lp (omega arith) (omega arith)
+      go : Live T p × (t .lev i ≡ suc (t .lev p)) → (Live T p → t .lev p ≡ n → (k : ℕ) → k ≤ n → (j : ℕ) × Live T j × (t .lev j ≡ k))
+          → Dec (k ≡ suc n) → (j : ℕ) × Live T j × (t .lev j ≡ k)
+      go (lp, o) up (yes q) = (i, (some p, l, ei), omega arith)
+      go (lp, o) up (no nq) = up lp (omega arith) k (omega arith)
 
   -- a tree has fewer levels than rows
-  pub lev-lt : (i : ℕ) → Live T i → t .lev i < length T
-  lev-lt i li = hits-lt (length T) (t .lev i) (t .lev) (λ k le.
-      let w = row-of-level (t .lev i) i k li refl le in (w .0, live-lt T (w .0) (w .1), w .2))
+  pub level-bound : (i : ℕ) → Live T i → t .lev i < length T
+  level-bound i li = hits-lt (length T) (t .lev i) (t .lev) (λ k le. let (j, lj, e) = ancestor (t .lev i) i li refl k le in (j, live-lt T j lj, e))
 
   -- where there is a row there is a top
   pub top-root : (i : ℕ) → Live T i → Root T (t .top)
-  top-root i li = go (row-of-level (t .lev i) i 0 li refl (omega arith))
+  top-root i li = go (ancestor (t .lev i) i li refl 0 (omega arith))
     where
       go : (j : ℕ) × Live T j × (t .lev j ≡ 0) → Root T (t .top)
       go (j, (none, l, e), z) = subst (Root T) (t .single j (l, e)) (l, e)

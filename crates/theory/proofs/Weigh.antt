@@ -14,7 +14,7 @@ use Rattle.meaning.specs.TreeQuery.{Lab, Row, node, Table, at, Query, nodes, Li
 use Rattle.meaning.specs.Tree.{Forest, bare, tree, Tag, size, choose, kidsFrom, tagOf, plant, grow, treeOf}
 use Rattle.theory.proofs.Count.{count, src, dst, size-count}
 use Rattle.theory.proofs.Look.{live-lt, lt-live}
-use Rattle.theory.proofs.Levels.{lev-lt}
+use Rattle.theory.proofs.Levels.{level-bound}
 use Rattle.theory.proofs.Bridge.{Among, row-of-kid}
 
 -- ------------------------------------------------------------------ sums
@@ -92,7 +92,7 @@ plant-same tag f g (j ∷ js) e = let x = e j (inl refl) in let y = plant-same t
 module _ (Q : Query) (q : TreeQuery Q) where
   -- as many rounds as rows are enough
   grow-enough : (f i : ℕ) → Live (Q .rows) i → nodes Q ≤ f + q .tree .lev i → grow f Q i ≡ grow (suc f) Q i
-  grow-enough zero i li le = let lt = lev-lt (Q .rows) (q .tree) i li in absurd (omega arith)
+  grow-enough zero i li le = let lt = level-bound (q .tree) i li in absurd (omega arith)
   grow-enough (suc f) i li le =
       plant-same (tagOf Q) (grow f Q) (grow (suc f) Q) (kidsFrom (some i) (Q .rows) 0) (λ j c.
       let w = row-of-kid (some i) (Q .rows) j c in
