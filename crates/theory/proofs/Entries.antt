@@ -11,7 +11,7 @@ use native.Mathlib.Omega.{arith}
 use lib.ListN.{length, length-append}
 use Rattle.meaning.specs.Basics.{look}
 use Rattle.meaning.specs.Tree.{Forest, bare, tree, Tag, size, Any}
-use Rattle.theory.proofs.Count.{count}
+use Rattle.theory.proofs.Count.{bit, count}
 use Rattle.theory.proofs.Look.{never, look-lt, look-left, look-right}
 
 -- a node: its parent's number, what it bears, what lies below it
@@ -155,7 +155,7 @@ first q (x ∷ xs) = cond (q (x .tag)) 0 (suc (first q xs))
 
 abbrev tally : (Tag → Bool) → List Entry → ℕ
 tally q [] = 0
-tally q (x ∷ xs) = cond (q (x .tag)) 1 0 + tally q xs
+tally q (x ∷ xs) = bit (q (x .tag)) + tally q xs
 
 tally-append : (q : Tag → Bool) (xs ys : List Entry) → tally q (xs ++ ys) ≡ tally q xs + tally q ys
 tally-append q [] ys = omega arith
@@ -175,14 +175,14 @@ first-marked : (q : Tag → Bool) (xs : List Entry) → 1 ≤ tally q xs → Mar
 first-marked q [] le = absurd (omega arith)
 first-marked q (x ∷ xs) le = go (q (x .tag)) refl (first-marked q xs) le
   where
-    go : (t : Bool) → q (x .tag) ≡ t → (1 ≤ tally q xs → Marked q xs (first q xs)) → 1 ≤ cond t 1 0 + tally q xs → Marked q (x ∷ xs) (cond t 0 (suc (first q xs)))
+    go : (t : Bool) → q (x .tag) ≡ t → (1 ≤ tally q xs → Marked q xs (first q xs)) → 1 ≤ bit t + tally q xs → Marked q (x ∷ xs) (cond t 0 (suc (first q xs)))
     go true e ih le′ = (x, refl, e)
     go false e ih le′ = ih (omega arith)
 
 marked-tally : (q : Tag → Bool) (xs : List Entry) (i : ℕ) → Marked q xs i → 1 ≤ tally q xs
 marked-tally q [] i (x, e, t) = never cc
 marked-tally q (y ∷ xs) zero (x, e, t) =
-    let z : y ≡ x = cc in let c : _≡_ {A = ℕ} (cond (q (y .tag)) 1 0) 1 = rw (z, t) in omega arith
+    let z : y ≡ x = cc in let c : bit (q (y .tag)) ≡ 1 = rw (z, t) in omega arith
 marked-tally q (y ∷ xs) (suc i) m = let z = marked-tally q xs i m in omega arith
 
 marked-first : (q : Tag → Bool) (xs : List Entry) → tally q xs ≤ 1 → (i : ℕ) → Marked q xs i → i ≡ first q xs
@@ -190,7 +190,7 @@ marked-first q [] le i (x, e, t) = never cc
 marked-first q (y ∷ xs) le zero (x, e, t) = let z : y ≡ x = cc in rw (z, t)
 marked-first q (y ∷ xs) le (suc i) m = go (q (y .tag)) (marked-first q xs) (marked-tally q xs i m) le
   where
-    go : (t : Bool) → (tally q xs ≤ 1 → (j : ℕ) → Marked q xs j → j ≡ first q xs) → 1 ≤ tally q xs → cond t 1 0 + tally q xs ≤ 1 → suc i ≡ cond t 0 (suc (first q xs))
+    go : (t : Bool) → (tally q xs ≤ 1 → (j : ℕ) → Marked q xs j → j ≡ first q xs) → 1 ≤ tally q xs → bit t + tally q xs ≤ 1 → suc i ≡ cond t 0 (suc (first q xs))
     go true ih one le′ = absurd (omega arith)
     go false ih one le′ = ap suc (ih (omega arith) i m)
 

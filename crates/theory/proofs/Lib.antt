@@ -11,6 +11,7 @@ pub mod Back
 pub mod Weigh
 pub mod Entries
 pub mod Canon
+pub mod Marks
 pub mod Gluing
 pub mod Depth
 pub mod Join

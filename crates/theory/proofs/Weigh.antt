@@ -3,7 +3,7 @@
 use mathlib.Core.Path.{_≡_, refl, sym, ap, subst, _∙_}
 use mathlib.Core.Logic.{_≢_, inl, inr}
 use mathlib.Core.Option.{Option, none, some}
-use mathlib.Core.Bool.{Bool, true, cond}
+use mathlib.Core.Bool.{Bool, true}
 use mathlib.Core.List.{List, [], _∷_}
 use Prim.Native.Nat.{ℕ, zero, suc, _+_, _≤_, _<_}
 use native.Mathlib.Decide.{ℕ-discrete}
@@ -12,7 +12,7 @@ use lib.ListN.{length}
 use Rattle.meaning.specs.Basics.{is}
 use Rattle.meaning.specs.TreeQuery.{Lab, Row, node, Table, at, Query, nodes, Live, TreeQuery}
 use Rattle.meaning.specs.Tree.{Forest, bare, tree, Tag, size, choose, kidsFrom, tagOf, plant, grow, treeOf}
-use Rattle.theory.proofs.Count.{count, src, dst, size-count}
+use Rattle.theory.proofs.Count.{bit, count, src, dst, size-count}
 use Rattle.theory.proofs.Look.{live-lt, lt-live}
 use Rattle.theory.proofs.Levels.{level-bound}
 use Rattle.theory.proofs.Bridge.{Among, row-of-kid}
@@ -81,7 +81,7 @@ partition g N (node (some q) l ∷ C) b below =
     miss p ne (no ne′) = refl
 
 -- ------------------------------------------------------------------ counting in the tree, and in the table
-count-plant : (p : Tag → Bool) (tag : ℕ → Tag) (f : ℕ → Forest Tag) (js : List ℕ) → count p (plant tag f js) ≡ sumOver (λ j. cond (p (tag j)) 1 0 + count p (f j)) js
+count-plant : (p : Tag → Bool) (tag : ℕ → Tag) (f : ℕ → Forest Tag) (js : List ℕ) → count p (plant tag f js) ≡ sumOver (λ j. bit (p (tag j)) + count p (f j)) js
 count-plant p tag f [] = refl
 count-plant p tag f (j ∷ js) = let z = count-plant p tag f js in omega arith
 
@@ -99,17 +99,17 @@ module _ (Q : Query) (q : TreeQuery Q) where
       let o : q .tree .lev j ≡ suc (q .tree .lev i) = (q .tree .linked j i (w .0) (w .1)) .1 in
       grow-enough f j (some i, w .0, w .1) (omega arith))
 
-  count-tree : (p : Tag → Bool) → count p (treeOf Q) ≡ sumFrom (λ i. cond (p (tagOf Q i)) 1 0) 0 (nodes Q)
+  count-tree : (p : Tag → Bool) → count p (treeOf Q) ≡ sumFrom (λ i. bit (p (tagOf Q i))) 0 (nodes Q)
   count-tree p =
       let y = partition below (nodes Q) (Q .rows) 0 (λ i u l e. live-lt (Q .rows) u ((q .tree .linked i u l e) .0)) in
-      let s = sum-add (λ i. cond (p (tagOf Q i)) 1 0) (λ i. count p (grow (nodes Q) Q i)) 0 (nodes Q) in
+      let s = sum-add (λ i. bit (p (tagOf Q i))) (λ i. count p (grow (nodes Q) Q i)) 0 (nodes Q) in
       let t = count-plant p (tagOf Q) (grow (nodes Q) Q) (kidsFrom none (Q .rows) 0) in
       let e = sum-same (λ i. count p (grow (nodes Q) Q i)) (λ i. sumOver below (kidsFrom (some i) (Q .rows) 0)) 0 (nodes Q) (λ i lo hi. next i (omega arith)) in
       omega arith
     where
       -- a row with all below it
       below : ℕ → ℕ
-      below j = cond (p (tagOf Q j)) 1 0 + count p (grow (nodes Q) Q j)
+      below j = bit (p (tagOf Q j)) + count p (grow (nodes Q) Q j)
 
       next : (i : ℕ) → i < nodes Q → count p (grow (nodes Q) Q i) ≡ sumOver below (kidsFrom (some i) (Q .rows) 0)
       next i lt = ap (count p) (grow-enough (nodes Q) i (lt-live (Q .rows) i lt) (omega arith)) ∙ count-plant p (tagOf Q) (grow (nodes Q) Q) (kidsFrom (some i) (Q .rows) 0)
@@ -120,17 +120,17 @@ pub size-tree : (Q : Query) → TreeQuery Q → size (treeOf Q) ≡ nodes Q
 size-tree Q q = size-count (treeOf Q) ∙ count-tree Q q (λ _. true) ∙ sum-one 0 (nodes Q)
 
 -- one row has number s
-sum-is : (T : Table) (s : ℕ) → Live T s → sumFrom (λ i. cond (is (ℕ-discrete i s)) 1 0) 0 (length T) ≡ 1
+sum-is : (T : Table) (s : ℕ) → Live T s → sumFrom (λ i. bit (is (ℕ-discrete i s))) 0 (length T) ≡ 1
 sum-is T s live =
     let lt = live-lt T s live in
-    let x = sum-more (λ i. cond (is (ℕ-discrete i s)) 1 0) (λ _. 0) s 1 (hit (ℕ-discrete s s)) (λ i ne. miss i ne (ℕ-discrete i s)) 0 (length T) (omega arith) (omega arith) in
+    let x = sum-more (λ i. bit (is (ℕ-discrete i s))) (λ _. 0) s 1 (hit (ℕ-discrete s s)) (λ i ne. miss i ne (ℕ-discrete i s)) 0 (length T) (omega arith) (omega arith) in
     let z = sum-zero 0 (length T) in omega arith
   where
-    hit : (c : Dec (s ≡ s)) → _≡_ {A = ℕ} (cond (is c) 1 0) (1 + 0)
+    hit : (c : Dec (s ≡ s)) → bit (is c) ≡ 1 + 0
     hit (yes p) = refl
     hit (no np) = absurd (np refl)
 
-    miss : (i : ℕ) → i ≢ s → (c : Dec (i ≡ s)) → _≡_ {A = ℕ} (cond (is c) 1 0) 0
+    miss : (i : ℕ) → i ≢ s → (c : Dec (i ≡ s)) → bit (is c) ≡ 0
     miss i ne (yes p) = absurd (ne p)
     miss i ne (no np) = refl
 
