@@ -12,11 +12,15 @@ use Rattle.meaning.specs.Basics.{look, mapped}
 use Rattle.meaning.specs.Document.{DocRow, Doc, docRow, In, Child, labelOf, Document}
 use Rattle.meaning.specs.Expression.{Agree}
 use Rattle.meaning.specs.TreeQuery.{Lab, any, lab, Query, TreeQuery, Fits, Selects}
-use Rattle.meaning.specs.Tree.{Forest, bare, tree, Tag, size, Any, treeOf, Lays, MarkOn, OnPair, Takes}
+use Rattle.meaning.specs.Tree.{Forest, bare, tree, Tag, size, Any, treeOf, Under, Lays, MarkOn, OnPair, Takes}
 use Rattle.meaning.specs.Folding.{LabLe, MarkLe, TagLe, Folds, Onto}
 use Rattle.theory.proofs.Count.{count, src, dst}
 use Rattle.theory.proofs.Look.{never, look-lt, look-there, look-map}
 use Rattle.theory.proofs.Labels.{LabIn, LabsIn}
+use Rattle.theory.proofs.Folding.{any-map, on-pair-mono, folds-lays}
+use Rattle.theory.proofs.Bridge.{one-top}
+use Rattle.theory.proofs.Back.{tree-means}
+use Rattle.theory.proofs.Weigh.{one-source, one-dest}
 use Rattle.theory.proofs.Entries.{Entry, entries, length-entries, Part, part-head, part-kids, part-rest, part-self, Has, Below, entry-parent, Deep, entry-deep, Marked, placeOf, place-marked, marked-place}
 
 -- ------------------------------------------------------------------ the document
@@ -108,11 +112,6 @@ own-takes c a k oneS oneD =
     ((0, canon-in c F 0 x refl, own-on c F oneS oneD 0 x refl, own-lays c F oneS oneD k 0 1 (part-kids (entries F none 0) a k bare none 0 (part-self F none)) (omega arith)), tt)
 
 -- ------------------------------------------------------------------ what lies on the canonical document folds
-has-any : (P : Tag → Forest Tag → Type 0) (a : Tag) (k f : Forest Tag) → P a k → Has a k f → Any P f
-has-any P a k bare p h = h
-has-any P a k (tree b j r) p (inl (e, e′)) = inl (subst (λ z. P z j) e (subst (λ z. P a z) e′ p))
-has-any P a k (tree b j r) p (inr h) = inr (has-any P a k r p h)
-
 -- a label that is not c fits only where the tree bears it
 lab-le : (c : ℕ) (l l′ : Lab) → LabIn (λ x. x ≢ c) l → Fits l (worn c l′) → LabLe l l′
 lab-le c any l′ av fit = tt
@@ -160,11 +159,10 @@ module _ (c : ℕ) (a₀ : Tag) (k₀ : Forest Tag) (oneS : count src (tree a₀
 
   lays-folds : (g : Forest Tag) (i : ℕ) (y : Entry) → look S i ≡ some y → LabsIn (λ l. l ≢ c) g → Lays D On g (some i) → Folds g (y .kids)
   lays-folds bare i y e av x = tt
-  lays-folds (tree t u r) i y e (av, avu, avr) ((j, ch, on, lu), lr) =
-      let w = child-entry i j y e ch in (
-        has-any (λ b k. Onto t u b k) (w .0 .tag) (w .0 .kids) (y .kids) (tag-le t j (w .0) (w .1) av on, lays-folds u j (w .0) (w .1) avu lu) (w .2),
-        lays-folds r i y e avr lr,
-      )
+  lays-folds (tree t u r) i y e (av, avu, avr) ((j, ch, on, lu), lr) = (go (child-entry i j y e ch) (λ x ex. lays-folds u j x ex avu lu), lays-folds r i y e avr lr)
+    where
+      go : (x : Entry) × (look S j ≡ some x) × Has (x .tag) (x .kids) (y .kids) → ((x : Entry) → look S j ≡ some x → Folds u (x .kids)) → Any (λ b k. Onto t u b k) (y .kids)
+      go (x, ex, h) ih = any-map (λ b k (eb, ek). (subst (TagLe t) eb (tag-le t j x ex av on), subst (Folds u) ek (ih x ex))) (y .kids) h
 
   -- a tree without the label c that takes this tree's own s and d folds onto its top or onto a node below
   pub takes-folds : (t : Tag) (u : Forest Tag) → LabsIn (λ l. l ≢ c) (tree t u bare) → Takes (tree t u bare) D (placeOf src F) (placeOf dst F) → Deep (λ b k. Onto t u b k) F
@@ -197,6 +195,22 @@ contained-folds a k b j oneS oneD le =
     let c : ℕ = fresh (tree b j bare) in
     takes-folds c a k oneS oneD b j (fresh-labels (tree b j bare) c (omega arith))
     (le (canon c (tree a k bare)) (canon-document c a k) (placeOf src (tree a k bare)) (placeOf dst (tree a k bare)) (own-takes c a k oneS oneD))
+
+-- .. and what folds so takes no less
+module _ (D : Doc) (m n : ℕ) (b : Tag) (j : Forest Tag) where
+  under-in : (v : Option ℕ) (w : ℕ) → Under D v w → In D w
+  under-in none w u = u
+  under-in (some v) w u = u .inside
+
+  deep-lays : (f : Forest Tag) (v : Option ℕ) → Deep (λ t u. Onto b j t u) f → Lays D (OnPair D m n) f v
+      → (w : ℕ) × In D w × OnPair D m n b w × Lays D (OnPair D m n) j (some w)
+  deep-lays bare v x l = absurd x
+  deep-lays (tree a k r) v (inl (p, o)) ((w, u, on, l), l′) = (w, under-in v w u, on-pair-mono D m n b a w p on, folds-lays D (OnPair D m n) (on-pair-mono D m n) j k (some w) o l)
+  deep-lays (tree a k r) v (inr (inl x)) ((w, u, on, l), l′) = deep-lays k (some w) x l
+  deep-lays (tree a k r) v (inr (inr x)) (l, l′) = deep-lays r v x l′
+
+  pub folds-contained : (a : Tag) (k : Forest Tag) → Deep (λ t u. Onto b j t u) (tree a k bare) → Takes (tree a k bare) D m n → Takes (tree b j bare) D m n
+  folds-contained a k x l = (deep-lays (tree a k bare) none x l, tt)
 
 -- ------------------------------------------------------------------ heights
 abbrev height : Forest Tag → ℕ
@@ -234,3 +248,16 @@ mutual-folds a k b j sa da sb db eq =
     let hx = deep-height a k (tree b j bare) x in
     let hy = deep-height b j (tree a k bare) y in
     (deep-top a k b j (omega arith) x, deep-top b j a k (omega arith) y)
+
+-- ------------------------------------------------------------------ no tree query is empty
+-- a tree query selects a pair on some document
+pub inhabited : (Q : Query) → TreeQuery Q → (D : Doc) × Document D × ((m : ℕ) × (n : ℕ) × Selects Q D m n)
+inhabited Q q = go (one-top Q q)
+  where
+    go : (a : Tag) × (k : Forest Tag) × (treeOf Q ≡ tree a k bare) → (D : Doc) × Document D × ((m : ℕ) × (n : ℕ) × Selects Q D m n)
+    go (a, k, e) =
+        let D : Doc = canon 0 (tree a k bare) in
+        let m : ℕ = placeOf src (tree a k bare) in
+        let n : ℕ = placeOf dst (tree a k bare) in
+        let x : Takes (tree a k bare) D m n = own-takes 0 a k (sym (ap (count src) e) ∙ one-source Q q) (sym (ap (count dst) e) ∙ one-dest Q q) in
+        (D, canon-document 0 a k, (m, n, (tree-means Q q D m n) .1 (subst (λ f. Takes f D m n) (sym e) x)))
