@@ -30,13 +30,13 @@ pub true-is : {P : Type 0} (d : Dec P) → P → is d ≡ true
 true-is (yes p) q = refl
 true-is (no n) q = absurd (n q)
 
-same-link : (u v : Option ℕ) → sameLink u v ≡ true → u ≡ v
+pub same-link : (u v : Option ℕ) → sameLink u v ≡ true → u ≡ v
 same-link none none e = refl
 same-link none (some j) e = never cc
 same-link (some i) none e = never cc
 same-link (some i) (some j) e = ap some (is-true (ℕ-discrete i j) e)
 
-link-same : (u : Option ℕ) → sameLink u u ≡ true
+pub link-same : (u : Option ℕ) → sameLink u u ≡ true
 link-same none = refl
 link-same (some i) = true-is (ℕ-discrete i i) refl
 

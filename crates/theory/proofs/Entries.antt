@@ -44,10 +44,10 @@ look-split (y ∷ xs) ys (suc i) x e = go (look-split xs ys i x e)
     go (inr (j, q, e′)) = inr (j, omega arith, e′)
 
 -- a later node of a forest stands among the first one's children's nodes, or among the later brothers'
-abbrev Later : Tag → Forest Tag → Forest Tag → Option ℕ → ℕ → ℕ → Entry → Type 0
+abbrev pub Later : Tag → Forest Tag → Forest Tag → Option ℕ → ℕ → ℕ → Entry → Type 0
 Later a k r p b i x = (look (entries k (some b) (suc b)) i ≡ some x) ⊎ ((j : ℕ) × (i ≡ size k + j) × (look (entries r p (suc b + size k)) j ≡ some x))
 
-entry-later : (a : Tag) (k r : Forest Tag) (p : Option ℕ) (b i : ℕ) (x : Entry) → look (entries (tree a k r) p b) (suc i) ≡ some x → Later a k r p b i x
+pub entry-later : (a : Tag) (k r : Forest Tag) (p : Option ℕ) (b i : ℕ) (x : Entry) → look (entries (tree a k r) p b) (suc i) ≡ some x → Later a k r p b i x
 entry-later a k r p b i x e = rw (length-entries k (some b) (suc b)) at (look-split (entries k (some b) (suc b)) (entries r p (suc b + size k)) i x e)
 
 -- ------------------------------------------------------------------ the part of a list that a forest's nodes make up

@@ -12,6 +12,7 @@ pub mod Weigh
 pub mod Entries
 pub mod Canon
 pub mod Marks
+pub mod Tables
 pub mod Gluing
 pub mod Depth
 pub mod Join
