@@ -25,9 +25,9 @@ covers (suc n) f (suc k) c = let lt = covers n (λ i. moved 0 (f n) (f i)) k les
 
     less : (j : ℕ) → j ≤ k → (i : ℕ) × (i < n) × (moved 0 (f n) (f i) ≡ j)
     less j le =
-      let (i, lt, e) = c (back (f n) j) (low j le (decLt j (f n))) in
-      let ne : i ≢ n = λ q. back-miss (f n) j (sym e ∙ ap f q) in
-      (i, omega arith, ap (moved 0 (f n)) e ∙ moved-back 0 (f n) j)
+        let (i, lt, e) = c (back (f n) j) (low j le (decLt j (f n))) in
+        let ne : i ≢ n = λ q. back-miss (f n) j (sym e ∙ ap f q) in
+        (i, omega arith, ap (moved 0 (f n)) e ∙ moved-back 0 (f n) j)
 
 module _ {T : Table} (tr : Tree T) where
   abbrev lev : ℕ → ℕ
@@ -63,8 +63,8 @@ module _ {T : Table} (tr : Tree T) where
   depth-of zero i li lt = absurd (omega arith)
   depth-of (suc n) i (none, l, e) lt = rw e (sym (root-level i (l, e)))
   depth-of (suc n) i (some p, l, e) lt =
-    let o = tr .linked i p l e in let o1 : lev i ≡ suc (lev p) = o .1 in
-    rw e (ap suc (depth-of n p (o .0) (omega arith)) ∙ sym o1)
+      let o = tr .linked i p l e in let o1 : lev i ≡ suc (lev p) = o .1 in
+      rw e (ap suc (depth-of n p (o .0) (omega arith)) ∙ sym o1)
 
   pub depth-level : (i : ℕ) → Live T i → depth (length T) T i ≡ lev i
   depth-level i li = depth-of (length T) i li (level-bound i li)
@@ -77,14 +77,14 @@ module _ {T : Table} (tr : Tree T) where
     top-lowest zero i li lt = absurd (omega arith)
     top-lowest (suc n) i (none, l, e) lt = let z = ap h (tr .single i (l, e)) in omega arith
     top-lowest (suc n) i (some p, l, e) lt =
-      let o = tr .linked i p l e in let o1 : lev i ≡ suc (lev p) = o .1 in
-      let a = top-lowest n p (o .0) (omega arith) in let b = edge-lower i p l e in omega arith
+        let o = tr .linked i p l e in let o1 : lev i ≡ suc (lev p) = o .1 in
+        let a = top-lowest n p (o .0) (omega arith) in let b = edge-lower i p l e in omega arith
 
     -- a root and a row that has a parent
     not-one : (x y q : ℕ) (k : Lab) → Root T x → at T y ≡ some (node (some q) k) → h x ≢ h y
     not-one x y q k rx ey e =
-      let a = top-lowest (suc (lev q)) q ((tr .linked y q k ey) .0) (omega arith) in
-      let b = edge-lower y q k ey in let c = ap h (tr .single x rx) in omega arith
+        let a = top-lowest (suc (lev q)) q ((tr .linked y q k ey) .0) (omega arith) in
+        let b = edge-lower y q k ey in let c = ap h (tr .single x rx) in omega arith
 
     levels-one : (n x y : ℕ) → Live T x → Live T y → lev x < n → h x ≡ h y → lev x ≡ lev y
     levels-one zero x y lx ly lt e = absurd (omega arith)
@@ -92,10 +92,10 @@ module _ {T : Table} (tr : Tree T) where
     levels-one (suc n) x y (none, l, ex) (some q, k, ey) lt e = absurd (not-one x y q k (l, ex) ey e)
     levels-one (suc n) x y (some p, l, ex) (none, k, ey) lt e = absurd (not-one y x p l (k, ey) ex (sym e))
     levels-one (suc n) x y (some p, l, ex) (some q, k, ey) lt e =
-      let ox = tr .linked x p l ex in let ox1 : lev x ≡ suc (lev p) = ox .1 in
-      let oy = tr .linked y q k ey in let oy1 : lev y ≡ suc (lev q) = oy .1 in
-      let z = levels-one n p q (ox .0) (oy .0) (omega arith) (laying-congruent D T h lay x y p q l k ex ey e) in
-      omega arith
+        let ox = tr .linked x p l ex in let ox1 : lev x ≡ suc (lev p) = ox .1 in
+        let oy = tr .linked y q k ey in let oy1 : lev y ≡ suc (lev q) = oy .1 in
+        let z = levels-one n p q (ox .0) (oy .0) (omega arith) (laying-congruent D T h lay x y p q l k ex ey e) in
+        omega arith
 
     -- two rows that are laid on one node lie at one level
     pub level-laid : (x y : ℕ) → Live T x → Live T y → h x ≡ h y → lev x ≡ lev y

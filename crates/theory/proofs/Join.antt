@@ -99,8 +99,8 @@ module _ (D : Doc) (A B : Table) where
       go none e k = tt
       go (some (node none l)) e (a, b, c) = let q = same i (look-lt A i e) in (rw q a, rw q b, tt)
       go (some (node (some p) l)) e (a, b, c) =
-        let q = same i (look-lt A i e) in let q′ = same p (live-lt A p (cl i p l e)) in
-        (rw q a, rw q b, rw (q, q′) c)
+          let q = same i (look-lt A i e) in let q′ = same p (live-lt A p (cl i p l e)) in
+          (rw q a, rw q b, rw (q, q′) c)
 
   pub laying-fork : (f g : ℕ → ℕ) → Closed A → Laying D A f → Laying D B g → Laying D (join A B) (fork A f g)
   laying-fork f g cl layA layB i = go (sideOf A i)

@@ -4,3 +4,4 @@ pub mod Look
 pub mod Gluing
 pub mod Depth
 pub mod Join
+pub mod Apart
