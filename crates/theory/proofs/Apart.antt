@@ -1,7 +1,7 @@
 -- Gluing between two trees, and inside one, gives one tree. `Safe` says what the gluing of x and y in a table with a border b keeps: the rows
 -- below b stay where they are. Between two trees the border is the length of the first; inside one tree it is 0.
 use mathlib.Core.Path.{_≡_, refl, sym, ap, subst, _∙_}
-use mathlib.Core.Logic.{_≢_, _⊎_, inl, inr}
+use mathlib.Core.Logic.{_≢_, _⊎_, inl, inr, ⊎-swap}
 use mathlib.Core.Option.{Option, none, some}
 use Prim.Native.Nat.{ℕ, zero, suc, _+_, _-_, _≤_, _<_}
 use native.Mathlib.Decide.{ℕ-discrete, decLt}
@@ -9,12 +9,12 @@ use native.Mathlib.Omega.{arith}
 use lib.ListN.{length}
 use Rattle.meaning.specs.Basics.{pick, mapped}
 use Rattle.meaning.specs.Document.{Doc}
-use Rattle.meaning.specs.TreeQuery.{Lab, Row, node, Table, at, Live, Root, Linked, Tree, Laying}
+use Rattle.meaning.specs.TreeQuery.{Lab, lab, Row, node, Table, at, Live, Root, Linked, Tree, Laying}
 use Rattle.meaning.specs.Gluing.{meet, moved, merged, relink, Glued, glue, shift, join, across, depth, within}
 use Rattle.theory.proofs.Look.{never, look-lt, live-lt}
-use Rattle.theory.proofs.Gluing.{back, back-low, back-high, moved-low, moved-high, Merge, merge-still, RowOf, glued, old, rowOf, live-merged, linked-merged, Clash, Quotient, Result, Closed, linked-closed, glue-right, clash-none, live-glued, edge-glued, root-glued, level-glued, linked-glued}
+use Rattle.theory.proofs.Gluing.{back, back-low, back-high, moved-low, moved-high, Merge, merge-still, RowOf, glued, old, rowOf, live-merged, linked-merged, Clash, Quotient, Result, Closed, linked-closed, glue-right, clash-none, live-glued, edge-glued, root-glued, level-glued, linked-glued, laying-up, laying-down, still-glued}
 use Rattle.theory.proofs.Depth.{root-level, top-root, depth-level, level-laid}
-use Rattle.theory.proofs.Join.{at-left, at-right, live-left, live-right, fork, fork-left, fork-right}
+use Rattle.theory.proofs.Join.{at-left, at-right, live-left, live-right, fork, fork-left, fork-right, length-join, laying-left, laying-right, laying-fork}
 use Rattle.theory.proofs.Join as Join
 
 -- the rows below b link to rows below b; from the level of x and y upwards the links of the others stay among the others
@@ -94,20 +94,29 @@ safe-next {T} {x} {y} {p} {q} {l} {k} b m w em s = record {
         let d : j ≡ moved x y j₀ = cc in
         rw d (moved-up x y b j₀ (s .right) c (above j₀ (omega (arith, still p))))
 
--- ------------------------------------------------------------------ what a gluing gives
--- one tree, the quotient; or no laying has x and y on one node
-abbrev pub Made : Table → ℕ → ℕ → Option Glued → Type 0
-Made T x y none = (D : Doc) (h : ℕ → ℕ) → Laying D T h → h x ≡ h y → ⊥
-Made T x y (some g) = Quotient T x y g × Tree (g .rows)
-
-made : (T : Table) (x y : ℕ) → ((g : Glued) → Quotient T x y g → Tree (g .rows)) → (o : Option Glued) → Result T x y o → Made T x y o
-made T x y tree none c = λ D. clash-none D T x y c
-made T x y tree (some g) r = (r, tree g r)
-
 -- ------------------------------------------------------------------ between two trees
-swap : {P Q : Type 0} → P ⊎ Q → Q ⊎ P
-swap (inl p) = inr p
-swap (inr q) = inl q
+-- a row of T bears the label c
+abbrev pub Bears : Table → ℕ → Type 0
+Bears T c = (i : ℕ) × (u : Option ℕ) × (at T i ≡ some (node u (lab c)))
+
+pub bears-glued : {T : Table} {x y : ℕ} {g : Glued} → Quotient T x y g → (c : ℕ) → Bears (g .rows) c → Bears T c
+bears-glued r c (i, u, e) = let a = r .labels i u c e in (a .place, a .up, a .row)
+
+-- g is one tree made of A and B; its layings are the pairs of layings that have a and b on one node
+pub record Across (A B : Table) (a b : ℕ) (g : Glued) : Type 0 where
+  pub tree : Tree (g .rows)
+  pub same : g .to a ≡ g .to (length A + b)
+  pub liveA : (i : ℕ) → Live A i → Live (g .rows) (g .to i)
+  pub liveB : (j : ℕ) → Live B j → Live (g .rows) (g .to (length A + j))
+  pub up : (D : Doc) (h : ℕ → ℕ) → Laying D (g .rows) h → Laying D A (λ i. h (g .to i)) × Laying D B (λ j. h (g .to (length A + j)))
+  pub down : (D : Doc) (f f′ : ℕ → ℕ) → Laying D A f → Laying D B f′ → f a ≡ f′ b
+      → (h : ℕ → ℕ) × Laying D (g .rows) h × ((i : ℕ) → Live A i → h (g .to i) ≡ f i) × ((j : ℕ) → h (g .to (length A + j)) ≡ f′ j)
+  pub short : suc (length (g .rows)) ≤ length A + length B
+  pub labels : (c : ℕ) → Bears (g .rows) c → Bears A c ⊎ Bears B c
+
+abbrev pub AcrossO : Table → Table → ℕ → ℕ → Option Glued → Type 0
+AcrossO A B a b none = (D : Doc) (f f′ : ℕ → ℕ) → Laying D A f → Laying D B f′ → f a ≡ f′ b → ⊥
+AcrossO A B a b (some g) = Across A B a b g
 
 module _ {A B : Table} (ta : Tree A) (tb : Tree B) (a b : ℕ) (liveA : Live A a) (liveB : Live B b) where
   abbrev T : Table
@@ -230,7 +239,7 @@ module _ {A B : Table} (ta : Tree A) (tb : Tree B) (a b : ℕ) (liveA : Live A a
         let top = ap (λ z. g .to (length A + z)) (sym (tb .single j (k, ej))) ∙ sym e in
         let z = ap now top in
         let (l′, row) = edge-left i p l ei in
-        one-top topB topA (λ i₁ ri. swap (root-one i₁ ri)) (omega (arith, now-A, now-B, level-now i, level-left i (look-lt A i ei), (ta .linked i p l ei) .1)) (λ ri. let a = ri .1 in let b = ap (at (g .rows)) top in never cc)
+        one-top topB topA (λ i₁ ri. ⊎-swap (root-one i₁ ri)) (omega (arith, now-A, now-B, level-now i, level-left i (look-lt A i ei), (ta .linked i p l ei) .1)) (λ ri. let a = ri .1 in let b = ap (at (g .rows)) top in never cc)
     climb (suc n) i j (some p, l, ei) (some q, k, ej) lt e =
         let (lp, levP) = ta .linked i p l ei in
         let (lq, levQ) = tb .linked j q k ej in
@@ -243,11 +252,41 @@ module _ {A B : Table} (ta : Tree A) (tb : Tree B) (a b : ℕ) (liveA : Live A a
         let (t, et, one) = climb (suc (ta .lev a)) a b liveA liveB (omega arith) (r .same) in
         record { lev = now; linked = linked-glued r lev linked-join level-same; top = t; topLev = et; single = one }
 
-  pub across-made : Made T a (length A + b) (across A a B b)
-  across-made = made T a (length A + b) across-tree (across A a B b)
-      (glue-right (length T) T a (length A + b) (linked-closed T lev linked-join) (live-left A B a liveA) (live-right A B b liveB) (omega arith))
+  pub across-glued : AcrossO A B a b (across A a B b)
+  across-glued = go (across A a B b) (glue-right (length T) T a (length A + b) (linked-closed T lev linked-join) (live-left A B a liveA) (live-right A B b liveB) (omega arith))
+    where
+      both : (D : Doc) (f f′ : ℕ → ℕ) → Laying D A f → Laying D B f′ → Laying D T (fork A f f′)
+      both D f f′ = laying-fork D A B f f′ (linked-closed A (ta .lev) (ta .linked))
+
+      meets : (f f′ : ℕ → ℕ) → f a ≡ f′ b → fork A f f′ a ≡ fork A f f′ (length A + b)
+      meets f f′ e = fork-left A f f′ a (live-lt A a liveA) ∙ e ∙ sym (fork-right A f f′ b)
+
+      row : (c i : ℕ) (u : Option ℕ) → Join.RowOf A B i u (lab c) → Bears A c ⊎ Bears B c
+      row c i u (Join.first lt e) = inl (i, u, e)
+      row c i u (Join.second j v ei eu e) = inr (j, v, e)
+
+      go : (o : Option Glued) → Result T a (length A + b) o → AcrossO A B a b o
+      go none c = λ D f f′ lay lay′ e. clash-none D T a (length A + b) c (fork A f f′) (both D f f′ lay lay′) (meets f f′ e)
+      go (some g) r = record {
+        tree = across-tree g r;
+        same = r .same;
+        liveA = λ i li. live-glued r i (live-left A B i li);
+        liveB = λ j lj. live-glued r (length A + j) (live-right A B j lj);
+        up = λ D h lay. let w = laying-up r D h lay in (laying-left D A B (λ i. h (g .to i)) w, laying-right D A B (λ i. h (g .to i)) w);
+        down = λ D f f′ lay lay′ e.
+            let w = both D f f′ lay lay′ in
+            let still = still-glued r D (fork A f f′) w (meets f f′ e) in
+            ((λ i. fork A f f′ (r .from i)), laying-down r D (fork A f f′) w (meets f f′ e), λ i li. still i ∙ fork-left A f f′ i (live-lt A i li), λ j. still (length A + j) ∙ fork-right A f f′ j);
+        short = let z = r .less (λ e. omega (arith, live-lt A a liveA)) in omega (arith, length-join A B);
+        labels = λ c x. let (i, u, e) = bears-glued r c x in row c i u (Join.rowOf A B i u (lab c) e);
+      }
 
 -- ------------------------------------------------------------------ inside one tree
+-- one tree, the quotient; or no laying has x and y on one node
+abbrev pub Within : Table → ℕ → ℕ → Option Glued → Type 0
+Within T x y none = (D : Doc) (h : ℕ → ℕ) → Laying D T h → h x ≡ h y → ⊥
+Within T x y (some g) = Quotient T x y g × Tree (g .rows)
+
 module _ {T : Table} (tr : Tree T) (x y : ℕ) (lx : Live T x) (ly : Live T y) where
   level-depth : depth (length T) T x ≡ depth (length T) T y → tr .lev x ≡ tr .lev y
   level-depth e = sym (depth-level tr x lx) ∙ e ∙ depth-level tr y ly
@@ -265,18 +304,22 @@ module _ {T : Table} (tr : Tree T) (x y : ℕ) (lx : Live T x) (ly : Live T y) w
     right = omega arith;
   }
 
-  pub within-made : Made T x y (within T x y)
-  within-made = go (ℕ-discrete (depth (length T) T x) (depth (length T) T y))
+  pub within-glued : Within T x y (within T x y)
+  within-glued = go (ℕ-discrete (depth (length T) T x) (depth (length T) T y))
     where
-      tree : tr .lev x ≡ tr .lev y → (g : Glued) → Quotient T x y g → Tree (g .rows)
-      tree e g r = record {
-        lev = λ i. tr .lev (r .from i);
-        linked = linked-glued r (tr .lev) (tr .linked) e;
-        top = g .to (tr .top);
-        topLev = level-glued r (tr .lev) (tr .linked) e (tr .top) ∙ tr .topLev;
-        single = λ i ri. sym (r .onto i) ∙ ap (g .to) (tr .single (r .from i) (root-glued r i ri));
-      }
+      done : tr .lev x ≡ tr .lev y → (o : Option Glued) → Result T x y o → Within T x y o
+      done e none c = λ D. clash-none D T x y c
+      done e (some g) r = (
+        r,
+        record {
+          lev = λ i. tr .lev (r .from i);
+          linked = linked-glued r (tr .lev) (tr .linked) e;
+          top = g .to (tr .top);
+          topLev = level-glued r (tr .lev) (tr .linked) e (tr .top) ∙ tr .topLev;
+          single = λ i ri. sym (r .onto i) ∙ ap (g .to) (tr .single (r .from i) (root-glued r i ri));
+        },
+      )
 
-      go : (c : Dec (depth (length T) T x ≡ depth (length T) T y)) → Made T x y (pick c (glue (length T) T x y) none)
-      go (yes e) = made T x y (tree (level-depth e)) (glue (length T) T x y) (glue-right (length T) T x y (linked-closed T (tr .lev) (tr .linked)) lx ly (omega arith))
+      go : (c : Dec (depth (length T) T x ≡ depth (length T) T y)) → Within T x y (pick c (glue (length T) T x y) none)
+      go (yes e) = done (level-depth e) (glue (length T) T x y) (glue-right (length T) T x y (linked-closed T (tr .lev) (tr .linked)) lx ly (omega arith))
       go (no ne) = λ D h lay e. ne (depth-level tr x lx ∙ level-laid tr D h lay x y lx ly e ∙ sym (depth-level tr y ly))

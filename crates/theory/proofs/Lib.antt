@@ -5,3 +5,4 @@ pub mod Gluing
 pub mod Depth
 pub mod Join
 pub mod Apart
+pub mod Plain
