@@ -183,6 +183,16 @@ pub record LabelOf (T : Table) (t : ℕ → ℕ) (i c : ℕ) : Type 0 where
 seen : (t b h : ℕ → ℕ) → ((j : ℕ) → h (b (t j)) ≡ h j) → {i j : ℕ} → t j ≡ i → h j ≡ h (b i)
 seen t b h still {i} {j} e = sym (still j) ∙ ap (λ z. h (b z)) e
 
+-- levels of T are levels of G, whose edges t brings from T
+linked-along : (T G : Table) (t b lev : ℕ → ℕ) → Linked T lev → ((j : ℕ) → lev (b (t j)) ≡ lev j) → ((j : ℕ) → Live T j → Live G (t j))
+    → ((i p : ℕ) (n : Lab) → at G i ≡ some (node (some p) n) → EdgeOf T t i p) → Linked G (λ i. lev (b i))
+linked-along T G t b lev ok still live edges i p n e =
+    let (lq, eq) = ok (a .low) (a .high) (a .bears) (a .row) in
+    (subst (Live G) (a .toHigh) (live (a .high) lq), sym (seen t b lev still (a .toLow)) ∙ eq ∙ ap suc (seen t b lev still (a .toHigh)))
+  where
+    a : EdgeOf T t i p
+    a = edges i p n e
+
 module _ {T : Table} {x y : ℕ} {u v : Option ℕ} {l k : Lab} (w : Merge T x y u v l k) (m : Lab) where
   abbrev f : ℕ → ℕ
   f = moved x y
@@ -216,11 +226,11 @@ module _ {T : Table} {x y : ℕ} {u v : Option ℕ} {l k : Lab} (w : Merge T x y
       go (no ne) = ap h (back-moved x y j ne)
 
   -- a row of the merged table is the glued one or an old one
-  data RowOf (i : ℕ) (r : Option ℕ) (n : Lab) : Type 0 where
+  pub data RowOf (i : ℕ) (r : Option ℕ) (n : Lab) : Type 0 where
     glued : i ≡ f x → r ≡ mapped f (orElse u v) → n ≡ m → RowOf i r n
     old : (r₀ : Option ℕ) → at T (back y i) ≡ some (node r₀ n) → r ≡ mapped f r₀ → RowOf i r n
 
-  rowOf : (i : ℕ) (r : Option ℕ) (n : Lab) → at M i ≡ some (node r n) → RowOf i r n
+  pub rowOf : (i : ℕ) (r : Option ℕ) (n : Lab) → at M i ≡ some (node r n) → RowOf i r n
   rowOf i r n e = go (ℕ-discrete i (f x))
     where
       row : (o : Option Row) → at T (back y i) ≡ o → mapped (relink f) o ≡ some (node r n) → RowOf i r n
@@ -231,8 +241,8 @@ module _ {T : Table} {x y : ℕ} {u v : Option ℕ} {l k : Lab} (w : Merge T x y
       go (yes p) = let a = row-x in let b = sym (ap (at M) p) ∙ e in glued p (let z : r ≡ mapped f (orElse u v) = cc in z) (let z : n ≡ m = cc in z)
       go (no ne) = row (at T (back y i)) refl (sym (row-rest i ne) ∙ e)
 
-  pub live-merged : (i : ℕ) → Live M i → Live T (back y i)
-  live-merged i (r, n, e) = go (rowOf i r n e)
+  pub live-before : (i : ℕ) → Live M i → Live T (back y i)
+  live-before i (r, n, e) = go (rowOf i r n e)
     where
       go : RowOf i r n → Live T (back y i)
       go (glued p _ _) = (u, l, ap (λ z. at T (back y z)) p ∙ ap (at T) (back-moved x y x (w .differ)) ∙ w .rowX)
@@ -318,6 +328,12 @@ module _ {T : Table} {x y : ℕ} {u v : Option ℕ} {l k : Lab} (w : Merge T x y
           edge = λ p ep. (f p, ap (mapped f) ep, refl);
         }
 
+    pub live-merged : (j : ℕ) → Live T j → Live M (f j)
+    live-merged j (r, n, e) = let a = kept-merged (λ _. 0) (λ _ _ _ _. refl) j r n e in (a .up, a .bears, a .row)
+
+    pub linked-merged : (lev : ℕ → ℕ) → Linked T lev → lev x ≡ lev y → Linked M (λ i. lev (back y i))
+    linked-merged lev ok e = linked-along T M f (back y) lev ok (merge-still lev e) live-merged edge-merged
+
 -- ------------------------------------------------------------------ the whole gluing
 -- g is T with x and y made one, and nothing more than that asks for
 pub record Quotient (T : Table) (x y : ℕ) (g : Glued) : Type 0 where
@@ -396,7 +412,7 @@ module _ {T : Table} {x y : ℕ} {u v : Option ℕ} {l k : Lab} (w : Merge T x y
     from = λ i. back y (r .from i);
     onto = λ i. ap (g .to) (moved-back x y (r .from i)) ∙ r .onto i;
     same = ap (g .to) (sym (moved-same x y (w .differ)));
-    old = λ i li. live-merged w m (r .from i) (r .old i li);
+    old = λ i li. live-before w m (r .from i) (r .old i li);
     kept = λ j s n e. keep j s n (kept-merged w m em (g .to) (agree (g .to) (r .same)) j s n e);
     edges = λ i j n e. edge (r .edges i j n e);
     labels = λ i s c e. label (r .labels i s c e);
@@ -436,6 +452,9 @@ module _ {T : Table} {x y : ℕ} {u v : Option ℕ} {l k : Lab} (w : Merge T x y
 abbrev pub Closed : Table → Type 0
 Closed T = (i p : ℕ) (l : Lab) → at T i ≡ some (node (some p) l) → Live T p
 
+pub linked-closed : (T : Table) (lev : ℕ → ℕ) → Linked T lev → Closed T
+linked-closed T lev ok i p l e = (ok i p l e) .0
+
 -- with n rows gluing gives the quotient, or fails on two different labels
 abbrev Right : ℕ → Type 0
 Right n = (T : Table) (x y : ℕ) → Closed T → Live T x → Live T y → length T ≤ n → Result T x y (glue n T x y)
@@ -446,17 +465,14 @@ links-right n rec {T} {x} {y} (some p) (some q) {l} {k} m w em cl le = through w
     (λ t e p₀ q₀ ep eq. let a : p ≡ p₀ = cc in let b : q ≡ q₀ = cc in ap (λ z. t (moved x y z)) (sym a) ∙ e ∙ ap (λ z. t (moved x y z)) b)
     (λ h con e. merge-still w m h e p ∙ con x y p q l k (w .rowX) (w .rowY) e ∙ sym (merge-still w m h e q))
     (glue n M (moved x y p) (moved x y q))
-    (rec M (moved x y p) (moved x y q) (λ i j c e. closed (edge-merged w m i j c e)) (live p (cl x p l (w .rowX))) (live q (cl y q k (w .rowY)))
+    (rec M (moved x y p) (moved x y q) (λ i j c e. closed (edge-merged w m i j c e)) (live-merged w m em p (cl x p l (w .rowX))) (live-merged w m em q (cl y q k (w .rowY)))
     (let z = length-merged T x y (some p) m (look-lt T y (w .rowY)) in omega arith))
   where
     M : Table
     M = merged T x y (some p) m
 
-    live : (j : ℕ) → Live T j → Live M (moved x y j)
-    live j (r, c, e) = let a = kept-merged w m em (λ _. 0) (λ _ _ _ _. refl) j r c e in (a .up, a .bears, a .row)
-
     closed : {i j : ℕ} → EdgeOf T (moved x y) i j → Live M j
-    closed a = subst (Live M) (a .toHigh) (live (a .high) (cl (a .low) (a .high) (a .bears) (a .row)))
+    closed a = subst (Live M) (a .toHigh) (live-merged w m em (a .high) (cl (a .low) (a .high) (a .bears) (a .row)))
 links-right n rec {T} {x} {y} (some p) none m w em cl le =
     through w m em 0 0 (λ t e p₀ q₀ ep eq. never cc) (λ h con e. refl) (some (record { rows = merged T x y (some p) m; to = λ i. i })) (quotient-self (merged T x y (some p) m) 0 0 refl)
 links-right n rec {T} {x} {y} none v m w em cl le =
@@ -561,10 +577,4 @@ module _ {T : Table} {x y : ℕ} {g : Glued} (r : Quotient T x y g) where
     level-glued = r .least lev (λ i j p q l k ei ej eij. let a = (ok i p l ei) .1 in let b = (ok j q k ej) .1 in omega arith) e
 
     pub linked-glued : Linked (g .rows) (λ i. lev (r .from i))
-    linked-glued i p l ei =
-        let a = r .edges i p l ei in
-        let (lq, eq) = ok (a .low) (a .high) (a .bears) (a .row) in
-        (subst (Live (g .rows)) (a .toHigh) (live-glued (a .high) lq), sym (now (a .toLow)) ∙ eq ∙ ap suc (now (a .toHigh)))
-      where
-        now : {i j : ℕ} → g .to j ≡ i → lev j ≡ lev (r .from i)
-        now = seen (g .to) (r .from) lev level-glued
+    linked-glued = linked-along T (g .rows) (g .to) (r .from) lev ok level-glued live-glued (r .edges)

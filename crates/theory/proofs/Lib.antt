@@ -24,3 +24,5 @@ pub mod Normal
 pub mod Steps
 pub mod Factors
 pub mod Operands
+pub mod Apart
+pub mod Plain
