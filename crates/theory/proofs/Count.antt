@@ -1,7 +1,7 @@
 -- How many nodes of a tree bear what is asked for, and that the normal form's Boolean tests say whether it is any.
-use mathlib.Core.Path.{_≡_, refl}
+use mathlib.Core.Path.{_≡_, refl, subst}
 use mathlib.Core.Bool.{Bool, true, false, _||_, cond}
-use Prim.Native.Nat.{ℕ, suc, _+_, _≤_}
+use Prim.Native.Nat.{ℕ, _+_, _≤_}
 use native.Mathlib.Omega.{arith}
 use Rattle.meaning.specs.Tree.{Forest, bare, tree, Tag, size}
 use Rattle.meaning.specs.Normal.{holds, inTree}
@@ -52,3 +52,6 @@ holds-tells q (tree a k r) =
 
 pub in-tells : (q : Tag → Bool) (a : Tag) (k : Forest Tag) → Tells (inTree q a k) (bit (q a) + count q k)
 in-tells q a k = tells-or (q a) (holds q k) (bit (q a)) (count q k) (tells-one (q a)) (holds-tells q k)
+
+pub in-true : (q : Tag → Bool) (a : Tag) (k : Forest Tag) → inTree q a k ≡ true → 1 ≤ bit (q a) + count q k
+in-true q a k e = subst (λ x. Tells x (bit (q a) + count q k)) e (in-tells q a k)

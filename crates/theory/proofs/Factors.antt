@@ -13,9 +13,9 @@ abbrev pub Each : {A : Type 0} → (A → Type 0) → List A → Type 0
 Each P [] = Unit {0}
 Each P (x ∷ xs) = P x × Each P xs
 
-each-map : {A : Type 0} (P Q : A → Type 0) → ((x : A) → P x → Q x) → (xs : List A) → Each P xs → Each Q xs
-each-map P Q f [] h = tt
-each-map P Q f (x ∷ xs) (h, hs) = (f x h, each-map P Q f xs hs)
+each-map : {A : Type 0} (P P′ : A → Type 0) → ((x : A) → P x → P′ x) → (xs : List A) → Each P xs → Each P′ xs
+each-map P P′ f [] h = tt
+each-map P P′ f (x ∷ xs) (h, hs) = (f x h, each-map P P′ f xs hs)
 
 -- the labels and the branches of a forest, as factors
 abbrev pub Parts : (Expr → Type 0) → Forest Tag → Type 0
@@ -41,7 +41,8 @@ module _ (P : Expr → Type 0) where
       let ih = off-each p r l fr h in
       each-cond (p b j) (off p r l) (branch (child ∷ labelled (b .lab) (onward (chains j))) ∷ off p r l) ih (e, ih)
 
-  own-each : (l : Lab) (p : Tag → Forest Tag → Bool) (k : Forest Tag) (xs : List Expr) → Each P (labelled l []) → Parts P k → Each P xs → Each P (labelled l (off p k xs))
+  own-each : (l : Lab) (p : Tag → Forest Tag → Bool) (k : Forest Tag) (xs : List Expr) → Each P (labelled l []) → Parts P k → Each P xs
+      → Each P (labelled l (off p k xs))
   own-each l p k xs h f g = labelled-each l (off p k xs) h (off-each p k xs f g)
 
   module _ (hc : P child) (hp : P parent) where
@@ -49,7 +50,8 @@ module _ (P : Expr → Type 0) where
     ups-each bare f = tt
     ups-each (tree b j r) (g, e, fj, fr) =
         let own : List Expr = labelled (b .lab) (off srcIn j (parent ∷ [])) in
-        each-cond (srcIn b j) (ups j ++ own) (ups r) (each-app (ups j) own (ups-each j fj) (own-each (b .lab) srcIn j (parent ∷ []) g fj (hp, tt))) (ups-each r fr)
+        let o = own-each (b .lab) srcIn j (parent ∷ []) g fj (hp, tt) in
+        each-cond (srcIn b j) (ups j ++ own) (ups r) (each-app (ups j) own (ups-each j fj) o) (ups-each r fr)
 
     downs-each : (k : Forest Tag) → Parts P k → Each P (downs k)
     downs-each bare f = tt
@@ -57,26 +59,33 @@ module _ (P : Expr → Type 0) where
         each-cond (dstIn b j) (child ∷ labelled (b .lab) (off dstIn j (downs j))) (downs r)
         (hc, own-each (b .lab) dstIn j (downs j) g fj (downs-each j fj)) (downs-each r fr)
 
--- where the parts and the steps are P, and what is P is Q, and a second projection of what is P is Q: the factors are Q
+-- Where P holds of the parts and the steps, and P′ of what has P and of a second projection of what has P, P′ holds of the factors
 module _
-    (P Q : Expr → Type 0) (hc : P child) (hp : P parent) (weak : (e : Expr) → P e → Q e)
-    (above : (way : List Expr) → Each P way → Q (proj2 (all way)))
+    (P P′ : Expr → Type 0) (hc : P child) (hp : P parent) (weak : (e : Expr) → P e → P′ e)
+    (above : (way : List Expr) → Each P way → P′ (proj2 (all way)))
   where
-    above-each : (way l : List Expr) → Each P way → Each Q l → Each Q (aboveFactor way l)
+    above-each : (way l : List Expr) → Each P way → Each P′ l → Each P′ (aboveFactor way l)
     above-each [] l h g = g
     above-each (x ∷ xs) l h g = (above (x ∷ xs) h, g)
 
-    pub factors-each : (f : Forest Tag) (way : List Expr) → Parts P f → Each P way → Each Q (factors f way)
+    longer-each : (way : List Expr) (a : Tag) (k : Forest Tag) → Each P (labelled (a .lab) []) → Parts P k → Each P way → Each P (longer way a k)
+    longer-each way a k g f h =
+        each-app P way (labelled (a .lab) (off bothIn k (child ∷ []))) h (own-each P (a .lab) bothIn k (child ∷ []) g f (hc, tt))
+
+    around-each : (way : List Expr) (a : Tag) (k : Forest Tag) → Each P (labelled (a .lab) []) → Parts P k → Each P way → Each P′ (around way a k)
+    around-each way a k g f h =
+        let own : List Expr = labelled (a .lab) (off eitherIn k (downs k)) in
+        let u = each-map P P′ weak (ups k) (ups-each P hc hp k f) in
+        let o = each-map P P′ weak own (own-each P (a .lab) eitherIn k (downs k) g f (downs-each P hc hp k f)) in
+        each-app P′ (ups k) (aboveFactor way own) u (above-each way own h o)
+
+    pub factors-each : (f : Forest Tag) (way : List Expr) → Parts P f → Each P way → Each P′ (factors f way)
     factors-each bare way f h = tt
     factors-each (tree a k r) way (g, e, fk, fr) h =
-        let up : List Expr = labelled (a .lab) (off bothIn k (child ∷ [])) in
-        let own : List Expr = labelled (a .lab) (off eitherIn k (downs k)) in
-        each-cond Q (bothIn a k) (cond (someTree bothIn k) (factors k (longer way a k)) (around way a k)) (factors r way)
-        (each-cond Q (someTree bothIn k) (factors k (longer way a k)) (around way a k)
-        (factors-each k (longer way a k) fk (each-app P way up h (own-each P (a .lab) bothIn k (child ∷ []) g fk (hc, tt))))
-        (each-app Q (ups k) (aboveFactor way own) (each-map P Q weak (ups k) (ups-each P hc hp k fk))
-        (above-each way own h (each-map P Q weak own (own-each P (a .lab) eitherIn k (downs k) g fk (downs-each P hc hp k fk))))))
-        (factors-each r way fr h)
+        let F : List Expr = factors k (longer way a k) in
+        let x = factors-each k (longer way a k) fk (longer-each way a k g fk h) in
+        each-cond P′ (bothIn a k) (cond (someTree bothIn k) F (around way a k)) (factors r way)
+        (each-cond P′ (someTree bothIn k) F (around way a k) x (around-each way a k g fk h)) (factors-each r way fr h)
 
 -- ------------------------------------------------------------------ what holds of every normal form
 -- P holds of the labels in A and of the signs that a normal form uses
@@ -125,8 +134,9 @@ module _ (A : ℕ → Type 0) (P : Expr → Type 0) (K : Kept A P) where
   normal-kept : (f : Forest Tag) → LabsIn A f → P (normal f)
   normal-kept bare h = K .none
   normal-kept (tree a k r) h =
-      all-kept (factors (tree a k r) [])
-      (factors-each P P (K .down) (K .up) (λ e p. p) (λ way g. K .second (all way) (all-kept way g)) (tree a k r) [] (parts-kept (tree a k r) h) tt)
+      let f : Forest Tag = tree a k r in
+      let second : (way : List Expr) → Each P way → P (proj2 (all way)) = λ way g. K .second (all way) (all-kept way g) in
+      all-kept (factors f []) (factors-each P P (K .down) (K .up) (λ e p. p) second f [] (parts-kept f h) tt)
 
 -- the labels of the normal form are labels of the tree
 pub normal-labels : (P : ℕ → Type 0) (f : Forest Tag) → LabsIn P f → LabelsIn P (normal f)
@@ -142,7 +152,7 @@ labs-any (tree a k r) = (go (a .lab), labs-any k, labs-any r)
     go any = tt
     go (lab l) = tt
 
--- the normal form has no intersection and no inverse
+-- demand 3: "the normal form has no intersection and no inverse"
 pub normal-simple : (f : Forest Tag) → Simple (normal f)
 normal-simple f =
     normal-kept (λ _. Unit {0}) Simple

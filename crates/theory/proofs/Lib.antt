@@ -20,6 +20,7 @@ pub mod Folding
 pub mod Removal
 pub mod Minimal
 pub mod Unique
+pub mod Run
 pub mod Normal
 pub mod Steps
 pub mod Factors

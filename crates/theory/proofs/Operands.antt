@@ -1,5 +1,5 @@
--- How many operands are pending while the word of a normal form is read: never more than 256 for a tree of at most 256 nodes (01, refusal 4).
-use mathlib.Core.Bool.{Bool}
+-- How many operands are pending while the word of a normal form is read: never more than 256 for a tree of at most 256 nodes
+-- (01, refusal 4). In truth it is about half as many as there are nodes; 132 is what comes out here.
 use mathlib.Core.List.{List, [], _∷_, map}
 use Prim.Native.Nat.{ℕ, zero, suc, _+_, _≤_, max}
 use native.Mathlib.Omega.{arith}
@@ -39,23 +39,27 @@ lab-need : (h : ℕ) (l : Lab) → 1 ≤ h → Each (Small h) (labelled l [])
 lab-need h any p = tt
 lab-need h (lab l) p = (p, tt)
 
--- a chain needs what is below it to go on, and one operand more where it has several branches: then it lies among two nodes or more
-chain-need : (h : ℕ) (b : Tag) (j : Forest Tag) → size j + 2 ≤ h + h → Each (Small h) (onward (chains j)) → Each (Small h) (child ∷ labelled (b .lab) (onward (chains j)))
-chain-need h b j e ih = (omega arith, labelled-each (Small h) (b .lab) (onward (chains j)) (lab-need h (b .lab) (omega arith)) ih)
+-- brothers below a node: as branches, one projection each, and as what goes on in the node's chain.
+-- Only where brothers are several does the chain need one operand more than a brother's own: so h operands are enough for 2 h nodes or so
+abbrev AsBranches : Forest Tag → Type 0
+AsBranches j = (h : ℕ) → size j + 3 ≤ h + h → Each (Small h) (map branch (chains j))
 
-branch-need : (h : ℕ) (b : Tag) (j : Forest Tag) → ((i : ℕ) → size j + 2 ≤ i + i → Each (Small i) (onward (chains j))) → size j + 4 ≤ h + h
-    → need (branch (child ∷ labelled (b .lab) (onward (chains j)))) ≤ h
+abbrev AsOnward : Forest Tag → Type 0
+AsOnward j = (h : ℕ) → size j + 2 ≤ h + h → Each (Small h) (onward (chains j))
+
+chain-need : (h : ℕ) (b : Tag) (j : Forest Tag) → AsOnward j → size j + 2 ≤ h + h → Each (Small h) (child ∷ labelled (b .lab) (onward (chains j)))
+chain-need h b j ih e = (omega arith, labelled-each (Small h) (b .lab) (onward (chains j)) (lab-need h (b .lab) (omega arith)) (ih h e))
+
+branch-need : (h : ℕ) (b : Tag) (j : Forest Tag) → AsOnward j → size j + 4 ≤ h + h → need (branch (child ∷ labelled (b .lab) (onward (chains j)))) ≤ h
 branch-need zero b j ih e = absurd (omega arith)
-branch-need (suc h) b j ih e = all-need h (child ∷ labelled (b .lab) (onward (chains j))) (chain-need h b j (omega arith) (ih h (omega arith)))
+branch-need (suc h) b j ih e = all-need h (child ∷ labelled (b .lab) (onward (chains j))) (chain-need h b j ih (omega arith))
 
-chains-need : (j : Forest Tag)
-    → ((h : ℕ) → size j + 3 ≤ h + h → Each (Small h) (map branch (chains j))) × ((h : ℕ) → size j + 2 ≤ h + h → Each (Small h) (onward (chains j)))
+chains-need : (j : Forest Tag) → AsBranches j × AsOnward j
 chains-need bare = (λ h e. tt, λ h e. tt)
 chains-need (tree b j r) = go r ((chains-need j) .1) ((chains-need r) .0)
   where
-    go : (r′ : Forest Tag) → ((h : ℕ) → size j + 2 ≤ h + h → Each (Small h) (onward (chains j))) → ((h : ℕ) → size r′ + 3 ≤ h + h → Each (Small h) (map branch (chains r′)))
-        → ((h : ℕ) → size (tree b j r′) + 3 ≤ h + h → Each (Small h) (map branch (chains (tree b j r′)))) × ((h : ℕ) → size (tree b j r′) + 2 ≤ h + h → Each (Small h) (onward (chains (tree b j r′))))
-    go bare ij ir = (λ h e. (branch-need h b j ij (omega arith), tt), λ h e. chain-need h b j (omega arith) (ij h (omega arith)))
+    go : (r′ : Forest Tag) → AsOnward j → AsBranches r′ → AsBranches (tree b j r′) × AsOnward (tree b j r′)
+    go bare ij ir = (λ h e. (branch-need h b j ij (omega arith), tt), λ h e. chain-need h b j ij (omega arith))
     go (tree c i s) ij ir = (λ h e. (branch-need h b j ij (omega arith), ir h (omega arith)), λ h e. (branch-need h b j ij (omega arith), ir h (omega arith)))
 
 parts-need : (h : ℕ) (f : Forest Tag) → size f + 3 ≤ h + h → Parts (Small h) f
@@ -67,7 +71,7 @@ parts-need h (tree b j r) e =
 pub normal-need : (f : Forest Tag) → size f ≤ 256 → need (normal f) ≤ 256
 normal-need bare e = omega arith
 normal-need (tree a k r) e =
-    let x = all-need 131 (factors (tree a k r) [])
-    (factors-each (Small 130) (Small 131) (omega arith) (omega arith) (λ e′ p. omega arith) (λ way p. all-need 130 way p)
-    (tree a k r) [] (parts-need 130 (tree a k r) (omega arith)) tt) in
-    omega arith
+    let f : Forest Tag = tree a k r in
+    let parts : Parts (Small 130) f = parts-need 130 f (omega arith) in
+    let each : Each (Small 131) (factors f []) = factors-each (Small 130) (Small 131) (omega arith) (omega arith) (λ x p. omega arith) (all-need 130) f [] parts tt in
+    let x = all-need 131 (factors f []) each in omega arith

@@ -3,14 +3,14 @@ use mathlib.Core.Path.{_≡_, refl, sym, _∙_}
 use mathlib.Core.Logic.{_↔_}
 use mathlib.Core.Option.{Option, some}
 use mathlib.Core.Bool.{Bool, true}
-use Prim.Native.Nat.{ℕ, _+_}
+use Prim.Native.Nat.{ℕ}
 use native.Mathlib.Omega.{arith}
 use Rattle.meaning.specs.Basics.{pick}
 use Rattle.meaning.specs.Document.{Doc}
 use Rattle.meaning.specs.Tree.{Forest, bare, tree, Tag, size, Lays}
 use Rattle.meaning.specs.Image.{LeL, decL, recordOf, records, place, ordered}
 use Rattle.theory.proofs.Count.{count, size-count}
-use Rattle.theory.proofs.Labels.{LabIn, LabsIn}
+use Rattle.theory.proofs.Labels.{LabsIn}
 
 -- E does not look at the order of brothers
 record Orderless (E : Forest Tag → Forest Tag → Type 0) : Type 0 where
@@ -42,7 +42,10 @@ ordered-lays D On =
     (record {
       same = λ f v. (λ l. l, λ l. l);
       via = λ f g h x y v. (λ l. (y v) .0 ((x v) .0 l), λ l. (x v) .1 ((y v) .1 l));
-      under = λ a k k′ r r′ x y v. (λ (s, l). ((s .0, s .1, s .2, (x (some (s .0))) .0 (s .3)), (y v) .0 l), λ (s, l). ((s .0, s .1, s .2, (x (some (s .0))) .1 (s .3)), (y v) .1 l));
+      under = λ a k k′ r r′ x y v. (
+        λ (s, l). ((s .0, s .1, s .2, (x (some (s .0))) .0 (s .3)), (y v) .0 l),
+        λ (s, l). ((s .0, s .1, s .2, (x (some (s .0))) .1 (s .3)), (y v) .1 l),
+      );
       swap = λ a k b j r v. (λ (s, l). (l .0, (s, l .1)), λ (s, l). (l .0, (s, l .1)));
     })
 

@@ -1,17 +1,17 @@
 -- The brothers on a way and the brothers off it (01, Normal form: "each child off those ways"): together they are the forest,
--- in what they select and in number, and the normal form's own factors are the branches of those off the way.
+-- in what they select and in number, and a node's own factors are the branches of those off the way. Two inductions walk the ways.
 use mathlib.Core.Path.{_≡_, refl, sym, ap, subst, _∙_}
 use mathlib.Core.Logic.{_↔_}
 use mathlib.Core.Option.{Option}
 use mathlib.Core.Bool.{Bool, true, false, _&&_, _||_, cond}
-use mathlib.Core.List.{List, _∷_, _++_, map}
+use mathlib.Core.List.{List, [], _∷_, _++_, map}
 use Prim.Native.Nat.{ℕ, _+_, _≤_}
 use native.Mathlib.Omega.{arith}
 use Rattle.meaning.specs.Document.{Doc}
 use Rattle.meaning.specs.Expression.{Expr, child}
 use Rattle.meaning.specs.Tree.{Forest, bare, tree, Tag, size, Lays}
-use Rattle.meaning.specs.Normal.{labelled, branch, onward, chains, inTree, srcIn, dstIn, bothIn, eitherIn, someTree, off}
-use Rattle.theory.proofs.Count.{bit, count, src, dst, marks, size-count, Tells, in-tells}
+use Rattle.meaning.specs.Normal.{labelled, branch, onward, chains, inTree, srcIn, dstIn, bothIn, eitherIn, someTree, off, longer, around, factors}
+use Rattle.theory.proofs.Count.{bit, count, src, dst, marks, size-count, Tells, in-tells, in-true}
 
 -- the trees that are so
 abbrev pub on : (Tag → Forest Tag → Bool) → Forest Tag → Forest Tag
@@ -72,13 +72,13 @@ aside-count q (tree b j r) = go (inTree q b j) (in-tells q b j) (aside-count q r
     go false t ih = omega arith
 
 -- without the mark no tree holds it
-pub on-none : (q : Tag → Bool) (p : Tag → Forest Tag → Bool) → ((b : Tag) (j : Forest Tag) → p b j ≡ true → inTree q b j ≡ true)
+on-none : (q : Tag → Bool) (p : Tag → Forest Tag → Bool) → ((b : Tag) (j : Forest Tag) → p b j ≡ true → 1 ≤ bit (q b) + count q j)
     → (k : Forest Tag) → count q k ≡ 0 → on p k ≡ bare
 on-none q p h bare e = refl
 on-none q p h (tree b j r) e = go (p b j) refl (on-none q p h r (omega arith))
   where
     go : (x : Bool) → p b j ≡ x → on p r ≡ bare → cond x (tree b j (on p r)) (on p r) ≡ bare
-    go true y ih = let z = subst (λ x. Tells x (bit (q b) + count q j)) (h b j y) (in-tells q b j) in absurd (omega arith)
+    go true y ih = let z = h b j y in absurd (omega arith)
     go false y ih = ih
 
 -- ------------------------------------------------------------------ the ways to both
@@ -120,39 +120,103 @@ either-counts k e =
     let d = aside-count dst k in let d₁ = aside-count dst A in let d₂ = count-ways dst srcIn k in let d₃ = count-ways dst dstIn k in let d₄ = count-ways dst dstIn A in
     (omega arith, omega arith, omega arith)
 
-and-left : (x y : Bool) → (x && y) ≡ true → x ≡ true
-and-left true y e = refl
-and-left false y e = e
+-- a tree that holds both marks has them
+both-true : (a : Tag) (k : Forest Tag) → bothIn a k ≡ true → (1 ≤ bit (src a) + count src k) × (1 ≤ bit (dst a) + count dst k)
+both-true a k = go (srcIn a k) (dstIn a k) (in-tells src a k) (in-tells dst a k)
+  where
+    go : (x y : Bool) → Tells x (bit (src a) + count src k) → Tells y (bit (dst a) + count dst k) → (x && y) ≡ true
+        → (1 ≤ bit (src a) + count src k) × (1 ≤ bit (dst a) + count dst k)
+    go true true t u e = (t, u)
+    go true false t u e = let o : _≡_ {A = ℕ} 0 1 = cc in absurd (omega arith)
+    go false y t u e = let o : _≡_ {A = ℕ} 0 1 = cc in absurd (omega arith)
 
 -- where a tree holds both marks, it alone does
-pub on-both : (k : Forest Tag) → count src k ≤ 1 → count dst k ≤ 1 → someTree bothIn k ≡ true
-    → (b : Tag) × (j : Forest Tag) × (on bothIn k ≡ tree b j bare) × (count src k ≡ 1) × (count dst k ≡ 1) × (marks (aside bothIn k) ≡ 0)
+on-both : (k : Forest Tag) → count src k ≤ 1 → count dst k ≤ 1 → someTree bothIn k ≡ true
+    → (b : Tag) × (j : Forest Tag) × (on bothIn k ≡ tree b j bare) × (1 ≤ count src k) × (1 ≤ count dst k) × (marks (aside bothIn k) ≡ 0)
 on-both bare s d e = let o : _≡_ {A = ℕ} 0 1 = cc in absurd (omega arith)
-on-both (tree b j r) s d e = go (srcIn b j) (dstIn b j) (in-tells src b j) (in-tells dst b j) e (on-both r (omega arith) (omega arith))
+on-both (tree b j r) s d e = go (bothIn b j) refl e (on-both r (omega arith) (omega arith))
   where
-    Alone : Bool → Type 0
-    Alone x = (c : Tag) × (i : Forest Tag) × (cond x (tree b j (on bothIn r)) (on bothIn r) ≡ tree c i bare)
-        × (count src (tree b j r) ≡ 1) × (count dst (tree b j r) ≡ 1) × (marks (cond x (aside bothIn r) (tree b j (aside bothIn r))) ≡ 0)
-
-    Later : Type 0
-    Later = (c : Tag) × (i : Forest Tag) × (on bothIn r ≡ tree c i bare) × (count src r ≡ 1) × (count dst r ≡ 1) × (marks (aside bothIn r) ≡ 0)
-
-    later : Later → Alone false
-    later (c, i, x, y, z, w) = (c, i, x, omega arith, omega arith, omega arith)
-
-    go : (x y : Bool) → Tells x (bit (src b) + count src j) → Tells y (bit (dst b) + count dst j) → ((x && y) || someTree bothIn r) ≡ true
-        → (someTree bothIn r ≡ true → Later) → Alone (x && y)
-    go true true t u z ih =
-        let v = count-ways src bothIn r in let w = count-ways dst bothIn r in
-        (b, j, ap (tree b j) (on-none src bothIn (λ c i. and-left (srcIn c i) (dstIn c i)) r (omega arith)), omega arith, omega arith, omega arith)
-    go true false t u z ih = later (ih z)
-    go false y t u z ih = later (ih z)
+    go : (x : Bool) → bothIn b j ≡ x → (x || someTree bothIn r) ≡ true
+        → (someTree bothIn r ≡ true → (c : Tag) × (i : Forest Tag) × (on bothIn r ≡ tree c i bare) × (1 ≤ count src r) × (1 ≤ count dst r) × (marks (aside bothIn r) ≡ 0))
+        → (c : Tag) × (i : Forest Tag) × (cond x (tree b j (on bothIn r)) (on bothIn r) ≡ tree c i bare)
+        × (1 ≤ count src (tree b j r)) × (1 ≤ count dst (tree b j r)) × (marks (cond x (aside bothIn r) (tree b j (aside bothIn r))) ≡ 0)
+    go true y t ih =
+        let (u, v) = both-true b j y in
+        let w = count-ways src bothIn r in let z = count-ways dst bothIn r in
+        (b, j, ap (tree b j) (on-none src bothIn (λ c i q. (both-true c i q) .0) r (omega arith)), omega arith, omega arith, omega arith)
+    go false y t ih = let (c, i, o, u, v, w) = ih t in (c, i, o, omega arith, omega arith, omega arith)
 
 -- a tree that has both marks holds them
-pub top-both : (a : Tag) (k : Forest Tag) → count src (tree a k bare) ≡ 1 → count dst (tree a k bare) ≡ 1 → bothIn a k ≡ true
+top-both : (a : Tag) (k : Forest Tag) → count src (tree a k bare) ≡ 1 → count dst (tree a k bare) ≡ 1 → bothIn a k ≡ true
 top-both a k s d = go (srcIn a k) (dstIn a k) (in-tells src a k) (in-tells dst a k)
   where
     go : (x y : Bool) → Tells x (bit (src a) + count src k) → Tells y (bit (dst a) + count dst k) → (x && y) ≡ true
     go true true t u = refl
     go true false t u = absurd (omega arith)
     go false y t u = absurd (omega arith)
+
+-- ------------------------------------------------------------------ walking a way
+-- W are the factors of the way to the one node marked q. What G says of them is so
+-- where that node is the one above the forest, and, one node higher, where it was so below that node
+module _
+    (q : Tag → Bool) (W : Forest Tag → List Expr) (next : Tag → Forest Tag → List Expr)
+    (way-tree : (b : Tag) (j r : Forest Tag) → W (tree b j r) ≡ cond (inTree q b j) (next b j) (W r))
+    (G : List Expr → Bool → Forest Tag → Type 0)
+    (here : G (W bare) true bare)
+    (higher : (b : Tag) (j : Forest Tag) → G (W j) (q b) (on (inTree q) j) → G (next b j) false (tree b j bare))
+  where
+    -- the marked node is the one above the forest (x), or in the forest
+    pub way-ind : (x : Bool) (k : Forest Tag) → bit x + count q k ≡ 1 → G (W k) x (on (inTree q) k)
+    way-ind true bare e = here
+    way-ind false bare e = absurd (omega arith)
+    way-ind x (tree b j r) e = rw (way-tree b j r) (go x (inTree q b j) (in-tells q b j) e (way-ind (q b) j) (way-ind x r))
+      where
+        p : Tag → Forest Tag → Bool
+        p = inTree q
+
+        go : (x′ y : Bool) → Tells y (bit (q b) + count q j) → bit x′ + count q (tree b j r) ≡ 1
+            → (bit (q b) + count q j ≡ 1 → G (W j) (q b) (on p j)) → (bit x′ + count q r ≡ 1 → G (W r) x′ (on p r))
+            → G (cond y (next b j) (W r)) x′ (cond y (tree b j (on p r)) (on p r))
+        go x′ false t e′ ij ir = ir (omega arith)
+        go true true t e′ ij ir = absurd (omega arith)
+        go false true t e′ ij ir = rw (on-none q p (in-true q) r (omega arith)) (higher b j (ij (omega arith)))
+
+-- What G says of the factors of a tree behind a way from the top is so
+-- where the tree's node is "the lowest node above or at both s and d", and, one node higher, where it was so of the child that holds both
+module _
+    (G : List Expr → List Expr → Tag → Forest Tag → Type 0)
+    (lowest : (way : List Expr) (a : Tag) (k : Forest Tag) → bit (src a) + count src k ≡ 1 → bit (dst a) + count dst k ≡ 1
+    → someTree bothIn k ≡ false → G (around way a k) way a k)
+    (higher : (xs way : List Expr) (a : Tag) (k : Forest Tag) (b : Tag) (j : Forest Tag) → bit (src a) ≡ 0 → bit (dst a) ≡ 0
+    → on bothIn k ≡ tree b j bare → marks (aside bothIn k) ≡ 0 → G xs (longer way a k) b j → G xs way a k)
+  where
+    abbrev First : List Expr → List Expr → Forest Tag → Type 0
+    First xs way bare = ⊥
+    First xs way (tree a k r) = G xs way a k
+
+    walk : (f : Forest Tag) (way : List Expr) → count src f ≤ 1 → count dst f ≤ 1 → someTree bothIn f ≡ true → First (factors f way) way (on bothIn f)
+    walk bare way s d e = let o : _≡_ {A = ℕ} 0 1 = cc in absurd (omega arith)
+    walk (tree a k r) way s d e = go (bothIn a k) refl e (walk k (longer way a k) (omega arith) (omega arith)) (walk r way (omega arith) (omega arith))
+      where
+        F : List Expr
+        F = factors k (longer way a k)
+
+        Below : Type 0
+        Below = someTree bothIn k ≡ true → First F (longer way a k) (on bothIn k)
+
+        below : bothIn a k ≡ true → Below → (y : Bool) → someTree bothIn k ≡ y → G (cond y F (around way a k)) way a k
+        below x ih false e′ = let (u, v) = both-true a k x in lowest way a k (omega arith) (omega arith) e′
+        below x ih true e′ =
+            let (b, j, o, cs, cd, ca) = on-both k (omega arith) (omega arith) e′ in
+            higher F way a k b j (omega arith) (omega arith) o ca (subst (First F (longer way a k)) o (ih e′))
+
+        go : (x : Bool) → bothIn a k ≡ x → (x || someTree bothIn r) ≡ true → Below → (someTree bothIn r ≡ true → First (factors r way) way (on bothIn r))
+            → First (cond x (cond (someTree bothIn k) F (around way a k)) (factors r way)) way (cond x (tree a k (on bothIn r)) (on bothIn r))
+        go true x e′ ik ir = below x ik (someTree bothIn k) refl
+        go false x e′ ik ir = ir e′
+
+    pub factors-ind : (a : Tag) (k : Forest Tag) → count src (tree a k bare) ≡ 1 → count dst (tree a k bare) ≡ 1 → G (factors (tree a k bare) []) [] a k
+    factors-ind a k s d =
+        let b = top-both a k s d in
+        let F : List Expr = factors (tree a k bare) [] in
+        subst (λ x. First F [] (cond x (tree a k bare) bare)) b (walk (tree a k bare) [] (omega arith) (omega arith) (rw b refl))
