@@ -1,6 +1,6 @@
 -- What the tree takes, the rows of the tree query select: the document nodes on which the tree lies are a forest of the tree's shape,
 -- and each row finds its own node there, level by level from the top. So a table means what its tree means.
-use mathlib.Core.Path.{_≡_, refl, sym, ap, subst, _∙_}
+use mathlib.Core.Path.{_≡_, refl, sym, subst}
 use mathlib.Core.Logic.{_↔_, _⊎_, inl, inr}
 use mathlib.Core.Option.{Option, none, some}
 use mathlib.Core.Bool.{Bool, true, false}

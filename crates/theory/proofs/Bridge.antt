@@ -11,7 +11,7 @@ use native.Mathlib.Omega.{arith}
 use lib.ListN.{length}
 use Rattle.meaning.specs.Basics.{is}
 use Rattle.meaning.specs.Document.{Doc}
-use Rattle.meaning.specs.TreeQuery.{Lab, Row, node, Table, at, Query, Root, TreeQuery, RowKept, Laying}
+use Rattle.meaning.specs.TreeQuery.{Lab, node, Table, at, Query, TreeQuery, RowKept, Laying}
 use Rattle.meaning.specs.Tree.{Forest, bare, tree, Tag, sameLink, linkIs, choose, kidsFrom, tagOf, plant, grow, treeOf, Under, Lays, MarkOn, OnPair, Takes}
 use Rattle.theory.proofs.Look.{never}
 use Rattle.theory.proofs.Levels.{top-root}

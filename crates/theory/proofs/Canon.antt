@@ -1,7 +1,7 @@
 -- The canonical document of a tree: its own nodes, wildcards wearing a label c. The tree takes its own s and d there; and with a label c
 -- that another tree does not bear, that tree lies there only by folding. So trees that take the same pairs fold onto each other.
 use mathlib.Core.Path.{_≡_, refl, sym, ap, subst, _∙_}
-use mathlib.Core.Logic.{_↔_, _≢_, _⊎_, inl, inr}
+use mathlib.Core.Logic.{_↔_, _≢_, inl, inr}
 use mathlib.Core.Option.{Option, none, some}
 use mathlib.Core.Bool.{Bool, true, false}
 use mathlib.Core.List.{List, [], _∷_, map}
@@ -9,7 +9,7 @@ use Prim.Native.Nat.{ℕ, zero, suc, _+_, _≤_, _<_, max}
 use native.Mathlib.Omega.{arith}
 use lib.ListN.{length, getD, length-map}
 use Rattle.meaning.specs.Basics.{look, mapped}
-use Rattle.meaning.specs.Document.{DocRow, Doc, docRow, In, Child, labelOf, Document}
+use Rattle.meaning.specs.Document.{DocRow, Doc, docRow, In, Child, Document}
 use Rattle.meaning.specs.Expression.{Agree}
 use Rattle.meaning.specs.TreeQuery.{Lab, any, lab, Query, TreeQuery, Fits, Selects}
 use Rattle.meaning.specs.Tree.{Forest, bare, tree, Tag, size, Any, treeOf, Under, Lays, MarkOn, OnPair, Takes}
@@ -17,11 +17,10 @@ use Rattle.meaning.specs.Folding.{LabLe, MarkLe, TagLe, Folds, Onto}
 use Rattle.theory.proofs.Count.{count, src, dst}
 use Rattle.theory.proofs.Look.{never, look-lt, look-there, look-map}
 use Rattle.theory.proofs.Labels.{LabIn, LabsIn}
-use Rattle.theory.proofs.Folding.{any-map, on-pair-mono, folds-lays}
-use Rattle.theory.proofs.Bridge.{one-top}
+use Rattle.theory.proofs.Folding.{Equal, any-map, on-pair-mono, folds-lays}
 use Rattle.theory.proofs.Back.{tree-means}
-use Rattle.theory.proofs.Weigh.{one-source, one-dest}
-use Rattle.theory.proofs.Entries.{Entry, entries, length-entries, Part, part-head, part-kids, part-rest, part-self, Has, Below, entry-parent, Deep, entry-deep, Marked, placeOf, place-marked, marked-place}
+use Rattle.theory.proofs.Marks.{QueryTree, query-tree}
+use Rattle.theory.proofs.Entries.{Entry, entries, Part, part-head, part-kids, part-rest, part-self, Has, Below, entry-parent, Deep, entry-deep, Marked, placeOf, place-marked, marked-place}
 
 -- ------------------------------------------------------------------ the document
 -- a wildcard wears c
@@ -249,15 +248,26 @@ mutual-folds a k b j sa da sb db eq =
     let hy = deep-height b j (tree a k bare) y in
     (deep-top a k b j (omega arith) x, deep-top b j a k (omega arith) y)
 
+pub agree-equal : (f g : Forest Tag) → QueryTree f → QueryTree g → Agree (Takes f) (Takes g) → Equal f g
+agree-equal f g x y eq =
+    let (o, o′) = mutual-folds (x .root) (x .below) (y .root) (y .below) (rw (x .top) at (x .source)) (rw (x .top) at (x .dest)) (rw (y .top) at (y .source)) (rw (y .top) at (y .dest))
+    (rw (x .top, y .top) at eq) in
+    rw (x .top, y .top) ((inl o, tt), (inl o′, tt))
+
 -- ------------------------------------------------------------------ no tree query is empty
 -- a tree query selects a pair on some document
 pub inhabited : (Q : Query) → TreeQuery Q → (D : Doc) × Document D × ((m : ℕ) × (n : ℕ) × Selects Q D m n)
-inhabited Q q = go (one-top Q q)
+inhabited Q q = go (treeOf Q) (query-tree Q q) (tree-means Q q)
   where
-    go : (a : Tag) × (k : Forest Tag) × (treeOf Q ≡ tree a k bare) → (D : Doc) × Document D × ((m : ℕ) × (n : ℕ) × Selects Q D m n)
-    go (a, k, e) =
-        let D : Doc = canon 0 (tree a k bare) in
-        let m : ℕ = placeOf src (tree a k bare) in
-        let n : ℕ = placeOf dst (tree a k bare) in
-        let x : Takes (tree a k bare) D m n = own-takes 0 a k (sym (ap (count src) e) ∙ one-source Q q) (sym (ap (count dst) e) ∙ one-dest Q q) in
-        (D, canon-document 0 a k, (m, n, (tree-means Q q D m n) .1 (subst (λ f. Takes f D m n) (sym e) x)))
+    go : (f : Forest Tag) → QueryTree f → ((D : Doc) (m n : ℕ) → Selects Q D m n ↔ Takes f D m n) → (D : Doc) × Document D × ((m : ℕ) × (n : ℕ) × Selects Q D m n)
+    go f t means =
+        let F : Forest Tag = tree (t .root) (t .below) bare in (
+          canon 0 F,
+          canon-document 0 (t .root) (t .below),
+          (
+            placeOf src F,
+            placeOf dst F,
+            (means (canon 0 F) (placeOf src F) (placeOf dst F)) .1
+                (rw (t .top) (own-takes 0 (t .root) (t .below) (rw (t .top) at (t .source)) (rw (t .top) at (t .dest)))),
+          ),
+        )

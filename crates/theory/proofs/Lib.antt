@@ -10,8 +10,8 @@ pub mod Bridge
 pub mod Back
 pub mod Weigh
 pub mod Entries
-pub mod Canon
 pub mod Marks
+pub mod Canon
 pub mod Tables
 pub mod Gluing
 pub mod Depth

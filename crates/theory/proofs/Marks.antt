@@ -1,6 +1,6 @@
 -- What the nodes of a query's tree bear: one is s and one is d, before and after folding, and every label comes from a row.
 -- "u's marks are among v's": a mark folds only onto a mark, so s and d never vanish.
-use mathlib.Core.Path.{_≡_, refl, _∙_}
+use mathlib.Core.Path.{_≡_, refl, ap, _∙_}
 use mathlib.Core.Logic.{inl, inr}
 use mathlib.Core.Option.{Option, none, some}
 use mathlib.Core.Bool.{Bool, true, false}
@@ -10,12 +10,15 @@ use native.Mathlib.Decide.{decLt}
 use native.Mathlib.Omega.{arith}
 use lib.ListN.{length}
 use Rattle.meaning.specs.Basics.{pick}
-use Rattle.meaning.specs.TreeQuery.{Lab, any, lab, Row, node, at, Query, TreeQuery}
+use Rattle.meaning.specs.TreeQuery.{any, lab, Row, node, at, Query, TreeQuery}
 use Rattle.meaning.specs.Tree.{Forest, bare, tree, Tag, Any, kidsFrom, labRow, tagOf, plant, grow, treeOf}
 use Rattle.meaning.specs.Folding.{MarkLe, TagLe, Folds, Onto, decAny, decOnto, sift, add, minimal}
 use Rattle.theory.proofs.Count.{bit, count, src, dst}
 use Rattle.theory.proofs.Labels.{LabIn, LabsIn}
+use Rattle.meaning.specs.Image.{ordered}
 use Rattle.theory.proofs.Minimal.{minimal-to}
+use Rattle.theory.proofs.Order.{ordered-count}
+use Rattle.theory.proofs.Bridge.{one-top}
 use Rattle.theory.proofs.Weigh.{one-source, one-dest}
 
 -- ------------------------------------------------------------------ what every removal of a tree keeps, folding keeps
@@ -94,6 +97,36 @@ minimal-source = minimal-count src (λ a b le. le .1)
 
 pub minimal-dest : (f : Forest Tag) → count dst f ≡ 1 → count dst (minimal f) ≡ 1
 minimal-dest = minimal-count dst (λ a b le. le .2)
+
+-- ------------------------------------------------------------------ the trees of tree queries
+-- one top, one s, one d
+pub record QueryTree (f : Forest Tag) : Type 0 where
+  pub root : Tag
+  pub below : Forest Tag
+  pub top : f ≡ tree root below bare
+  pub source : count src f ≡ 1
+  pub dest : count dst f ≡ 1
+
+pub query-tree : (Q : Query) → TreeQuery Q → QueryTree (treeOf Q)
+query-tree Q q = let (a, k, e) = one-top Q q in record { root = a; below = k; top = e; source = one-source Q q; dest = one-dest Q q }
+
+pub minimal-query-tree : (f : Forest Tag) → QueryTree f → QueryTree (minimal f)
+minimal-query-tree f t = record {
+  root = t .root;
+  below = minimal (t .below);
+  top = ap minimal (t .top) ∙ minimal-top (t .root) (t .below);
+  source = minimal-source f (t .source);
+  dest = minimal-dest f (t .dest);
+}
+
+pub ordered-query-tree : (f : Forest Tag) → QueryTree f → QueryTree (ordered f)
+ordered-query-tree f t = record {
+  root = t .root;
+  below = ordered (t .below);
+  top = ap ordered (t .top);
+  source = ordered-count src f ∙ t .source;
+  dest = ordered-count dst f ∙ t .dest;
+}
 
 -- ------------------------------------------------------------------ labels
 module _ (P : ℕ → Type 0) where

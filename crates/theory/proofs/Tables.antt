@@ -1,7 +1,7 @@
 -- A tree as a table of rows again, in preorder: with one top, one s and one d it is a tree query, and the tree is what is read off it.
 -- So the minimal tree is a tree query too, and "no tree query with the same meaning has fewer nodes" speaks of it as of any other.
 use mathlib.Core.Path.{_≡_, refl, sym, ap, subst, _∙_}
-use mathlib.Core.Logic.{_≢_, _⊎_, inl, inr}
+use mathlib.Core.Logic.{_≢_, inl, inr}
 use mathlib.Core.Option.{Option, none, some}
 use mathlib.Core.Bool.{Bool, true, false}
 use mathlib.Core.List.{List, [], _∷_, _++_, map, append-nil}
@@ -10,12 +10,13 @@ use native.Mathlib.Decide.{ℕ-discrete}
 use native.Mathlib.Omega.{arith}
 use lib.ListN.{length, length-map}
 use Rattle.meaning.specs.Basics.{is, look, mapped}
-use Rattle.meaning.specs.TreeQuery.{Lab, Row, node, Table, at, Query, Live, Root, Tree, TreeQuery}
+use Rattle.meaning.specs.TreeQuery.{Lab, Row, node, Table, at, Query, Live, Root, TreeQuery}
 use Rattle.meaning.specs.Gluing.{depth, depthRow}
 use Rattle.meaning.specs.Tree.{Forest, bare, tree, Tag, size, sameLink, choose, kidsFrom, labRow, tagOf, plant, grow, treeOf}
 use Rattle.theory.proofs.Count.{count, src, dst}
 use Rattle.theory.proofs.Look.{never, look-lt, look-map}
 use Rattle.theory.proofs.Bridge.{same-link, link-same}
+use Rattle.theory.proofs.Marks.{QueryTree}
 use Rattle.theory.proofs.Entries.{Entry, entries, length-entries, Later, entry-later, Part, part-head, part-kids, part-rest, part-self, Below, entry-parent, Marked, placeOf, place-marked, marked-place}
 
 abbrev rowOf : Entry → Row
@@ -78,13 +79,15 @@ module _ (a : Tag) (k : Forest Tag) where
   live-place : (q : Tag → Bool) → count q F ≡ 1 → Live T (placeOf q F)
   live-place q one = let (x, e, t) = place-marked q F one in (x .up, x .tag .lab, row-at F (placeOf q F) x e)
 
-  -- the table of a tree with one top, one s and one d is a tree query
-  pub table-query : count src (tree a k bare) ≡ 1 → count dst (tree a k bare) ≡ 1 → TreeQuery (tableOf (tree a k bare))
-  table-query oneS oneD = record {
+  one-top-query : count src (tree a k bare) ≡ 1 → count dst (tree a k bare) ≡ 1 → TreeQuery (tableOf (tree a k bare))
+  one-top-query oneS oneD = record {
     tree = record { lev = depth (length T) T; linked = linked; top = 0; topLev = refl; single = top-first };
     sLive = live-place src oneS;
     dLive = live-place dst oneD;
   }
+
+pub table-query : (F : Forest Tag) → QueryTree F → TreeQuery (tableOf F)
+table-query F t = rw (t .top) (one-top-query (t .root) (t .below) (rw (t .top) at (t .source)) (rw (t .top) at (t .dest)))
 
 -- ------------------------------------------------------------------ the children of a row
 -- the numbers of a forest's trees, its nodes numbered from b on
@@ -175,7 +178,7 @@ kids-entry (tree a k r) p b out (suc i) x e n en =
         (ir j e′ n (omega arith))
 
 -- ------------------------------------------------------------------ the tree that is read off
-module _ (F : Forest Tag) (oneS : count src F ≡ 1) (oneD : count dst F ≡ 1) where
+module _ (F : Forest Tag) (t : QueryTree F) where
   mark-at : (q : Tag → Bool) → count q F ≡ 1 → (i : ℕ) (x : Entry) → look (entries F none 0) i ≡ some x → is (ℕ-discrete i (placeOf q F)) ≡ q (x .tag)
   mark-at q one i x e = go (ℕ-discrete i (placeOf q F)) (q (x .tag)) refl (place-marked q F one)
     where
@@ -186,18 +189,18 @@ module _ (F : Forest Tag) (oneS : count src F ≡ 1) (oneD : count dst F ≡ 1) 
       go (no np) false et w = refl
 
   tag-at : (i : ℕ) (x : Entry) → look (entries F none 0) i ≡ some x → tagOf (tableOf F) i ≡ x .tag
-  tag-at i x e = λ j. record { lab = labRow (row-at F i x e j); src = mark-at src oneS i x e j; dst = mark-at dst oneD i x e j }
+  tag-at i x e = λ j. record { lab = labRow (row-at F i x e j); src = mark-at src (t .source) i x e j; dst = mark-at dst (t .dest) i x e j }
 
   plant-tops : (f : Forest Tag) (p : Option ℕ) (b : ℕ) → Part (entries F none 0) f p b → (n : ℕ) → size f ≤ n → plant (tagOf (tableOf F)) (grow n (tableOf F)) (tops f b) ≡ f
   plant-tops bare p b part n le = refl
   plant-tops (tree a k r) p b part zero le = absurd (omega arith)
   plant-tops (tree a k r) p b part (suc n) le =
       let e = part-head (entries F none 0) a k r p b part in
-      let t : tagOf (tableOf F) b ≡ a = tag-at b (record { up = p; tag = a; kids = k }) e in
+      let g : tagOf (tableOf F) b ≡ a = tag-at b (record { up = p; tag = a; kids = k }) e in
       let c : kidsFrom (some b) (tableOf F .rows) 0 ≡ tops k (suc b) = kids-entry F none 0 (λ i lo hi q. never cc) b (record { up = p; tag = a; kids = k }) e b (omega arith) in
       let x : plant (tagOf (tableOf F)) (grow n (tableOf F)) (tops k (suc b)) ≡ k = plant-tops k (some b) (suc b) (part-kids (entries F none 0) a k r p b part) n (omega arith) in
       let y : plant (tagOf (tableOf F)) (grow (suc n) (tableOf F)) (tops r (suc b + size k)) ≡ r = plant-tops r p (suc b + size k) (part-rest (entries F none 0) a k r p b part) (suc n) (omega arith) in
-      λ i. tree (t i) ((ap (plant (tagOf (tableOf F)) (grow n (tableOf F))) c ∙ x) i) (y i)
+      λ i. tree (g i) ((ap (plant (tagOf (tableOf F)) (grow n (tableOf F))) c ∙ x) i) (y i)
 
   -- what is read off the table of a tree is the tree
   pub tree-of-table : treeOf (tableOf F) ≡ F

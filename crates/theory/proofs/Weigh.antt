@@ -2,7 +2,7 @@
 -- So the tree has as many nodes as the table has rows, and one node is s and one is d.
 use mathlib.Core.Path.{_≡_, refl, sym, ap, subst, _∙_}
 use mathlib.Core.Logic.{_≢_, inl, inr}
-use mathlib.Core.Option.{Option, none, some}
+use mathlib.Core.Option.{none, some}
 use mathlib.Core.Bool.{Bool, true}
 use mathlib.Core.List.{List, [], _∷_}
 use Prim.Native.Nat.{ℕ, zero, suc, _+_, _≤_, _<_}
@@ -10,8 +10,8 @@ use native.Mathlib.Decide.{ℕ-discrete}
 use native.Mathlib.Omega.{arith}
 use lib.ListN.{length}
 use Rattle.meaning.specs.Basics.{is}
-use Rattle.meaning.specs.TreeQuery.{Lab, Row, node, Table, at, Query, nodes, Live, TreeQuery}
-use Rattle.meaning.specs.Tree.{Forest, bare, tree, Tag, size, choose, kidsFrom, tagOf, plant, grow, treeOf}
+use Rattle.meaning.specs.TreeQuery.{Lab, node, Table, at, Query, nodes, Live, TreeQuery}
+use Rattle.meaning.specs.Tree.{Forest, tree, Tag, size, choose, kidsFrom, tagOf, plant, grow, treeOf}
 use Rattle.theory.proofs.Count.{bit, count, src, dst, size-count}
 use Rattle.theory.proofs.Look.{live-lt, lt-live}
 use Rattle.theory.proofs.Levels.{level-bound}
