@@ -1,7 +1,7 @@
 -- What the tree takes, the rows of the tree query select: the document nodes on which the tree lies are a forest of the tree's shape,
--- and each row finds its own node there, level by level from the top. So a table means what its tree means.
+-- and each row finds its own node there, level by level from the top.
 use mathlib.Core.Path.{_≡_, refl, sym, subst}
-use mathlib.Core.Logic.{_↔_, _⊎_, inl, inr}
+use mathlib.Core.Logic.{_⊎_, inl, inr}
 use mathlib.Core.Option.{Option, none, some}
 use mathlib.Core.Bool.{Bool, true, false}
 use mathlib.Core.List.{List, [], _∷_}
@@ -12,10 +12,10 @@ use lib.ListN.{length}
 use Rattle.meaning.specs.Basics.{pick, is}
 use Rattle.meaning.specs.Document.{Doc, In, Child, labelOf}
 use Rattle.meaning.specs.TreeQuery.{Lab, Row, node, Table, at, Query, Live, TreeQuery, Fits, RowKept, Laying, Selects}
-use Rattle.meaning.specs.Tree.{Forest, bare, tree, Tag, kidsFrom, labRow, tagOf, plant, grow, treeOf, Under, Lays, MarkOn, OnPair, Takes}
+use Rattle.meaning.specs.Tree.{Forest, bare, tree, Tag, kidsFrom, labRow, tagOf, plant, grow, treeOf, Under, Lays, MarkOn, OnPair}
 use Rattle.theory.proofs.Look.{never}
 use Rattle.theory.proofs.Levels.{root-level, level-bound}
-use Rattle.theory.proofs.Bridge.{Among, true-is, kid-of-row, tree-takes}
+use Rattle.theory.proofs.Children.{Among, true-is, kid-of-row}
 
 -- ------------------------------------------------------------------ where a forest lies
 -- the place of number i on the list, and the places below it
@@ -135,8 +135,8 @@ module _ (D : Doc) (m n : ℕ) (Q : Query) (q : TreeQuery Q) (places : Forest �
   mark-of i m′ true e x = x
   mark-of i m′ false e x = never cc
 
-  table-selects : Selects Q D m n
-  table-selects = go (q .sLive) (q .dLive)
+  found-selects : Selects Q D m n
+  found-selects = go (q .sLive) (q .dLive)
     where
       go : Live T (Q .s) → Live T (Q .d) → Selects Q D m n
       go (u, l, e) (u′, l′, e′) = (
@@ -146,13 +146,6 @@ module _ (D : Doc) (m n : ℕ) (Q : Query) (q : TreeQuery Q) (places : Forest �
         mark-of (Q .d) n (is (ℕ-discrete (Q .d) (Q .d))) (true-is (ℕ-discrete (Q .d) (Q .d)) refl) ((found-on (Q .d) u′ l′ e′) .1 .2),
       )
 
-lays-of-takes : (f : Forest Tag) (D : Doc) (m n : ℕ) → Takes f D m n → Lays D (OnPair D m n) f none
-lays-of-takes bare D m n x = tt
-lays-of-takes (tree a k r) D m n x = x
-
--- a tree query selects what the tree that is read off it takes
-pub tree-means : (Q : Query) → TreeQuery Q → (D : Doc) (m n : ℕ) → Selects Q D m n ↔ Takes (treeOf Q) D m n
-tree-means Q q D m n = (
-  λ (h, lay, hs, hd). tree-takes D m n Q h lay hs hd q,
-  λ x. let w = places-of D (OnPair D m n) (treeOf Q) none (lays-of-takes (treeOf Q) D m n x) in table-selects D m n Q q (w .0) (w .1),
-)
+-- a tree that can be laid with s on m and d on n: the rows can be laid so
+pub rows-select : (D : Doc) (m n : ℕ) (Q : Query) → TreeQuery Q → Lays D (OnPair D m n) (treeOf Q) none → Selects Q D m n
+rows-select D m n Q q x = let (places, lies) = places-of D (OnPair D m n) (treeOf Q) none x in found-selects D m n Q q places lies

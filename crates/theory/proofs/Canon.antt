@@ -18,7 +18,7 @@ use Rattle.theory.proofs.Count.{count, src, dst}
 use Rattle.theory.proofs.Look.{never, look-lt, look-there, look-map}
 use Rattle.theory.proofs.Labels.{LabIn, LabsIn}
 use Rattle.theory.proofs.Folding.{Equal, any-map, on-pair-mono, folds-lays}
-use Rattle.theory.proofs.Back.{tree-means}
+use Rattle.theory.proofs.Bridge.{tree-means}
 use Rattle.theory.proofs.Marks.{QueryTree, query-tree}
 use Rattle.theory.proofs.Entries.{Entry, entries, Part, part-head, part-kids, part-rest, part-self, Has, Below, entry-parent, Deep, entry-deep, Marked, placeOf, place-marked, marked-place}
 
@@ -160,14 +160,14 @@ module _ (c : ℕ) (a₀ : Tag) (k₀ : Forest Tag) (oneS : count src (tree a₀
   lays-folds bare i y e av x = tt
   lays-folds (tree t u r) i y e (av, avu, avr) ((j, ch, on, lu), lr) = (go (child-entry i j y e ch) (λ x ex. lays-folds u j x ex avu lu), lays-folds r i y e avr lr)
     where
-      go : (x : Entry) × (look S j ≡ some x) × Has (x .tag) (x .kids) (y .kids) → ((x : Entry) → look S j ≡ some x → Folds u (x .kids)) → Any (λ b k. Onto t u b k) (y .kids)
+      go : (x : Entry) × (look S j ≡ some x) × Has (x .tag) (x .kids) (y .kids) → ((x : Entry) → look S j ≡ some x → Folds u (x .kids)) → Any (Onto t u) (y .kids)
       go (x, ex, h) ih = any-map (λ b k (eb, ek). (subst (TagLe t) eb (tag-le t j x ex av on), subst (Folds u) ek (ih x ex))) (y .kids) h
 
   -- a tree without the label c that takes this tree's own s and d folds onto its top or onto a node below
-  pub takes-folds : (t : Tag) (u : Forest Tag) → LabsIn (λ l. l ≢ c) (tree t u bare) → Takes (tree t u bare) D (placeOf src F) (placeOf dst F) → Deep (λ b k. Onto t u b k) F
+  pub takes-folds : (t : Tag) (u : Forest Tag) → LabsIn (λ l. l ≢ c) (tree t u bare) → Takes (tree t u bare) D (placeOf src F) (placeOf dst F) → Deep (Onto t u) F
   takes-folds t u (av, avu, tt′) ((v, lt, on, lu), z) =
       let w = in-canon c F v lt in
-      entry-deep (λ b k. Onto t u b k) F none 0 v (w .0) (w .1) (tag-le t v (w .0) (w .1) av on, lays-folds u v (w .0) (w .1) avu lu)
+      entry-deep (Onto t u) F none 0 v (w .0) (w .1) (tag-le t v (w .0) (w .1) av on, lays-folds u v (w .0) (w .1) avu lu)
 
 -- ------------------------------------------------------------------ a label that is found nowhere
 abbrev above : Lab → ℕ
@@ -189,7 +189,7 @@ fresh-labels (tree a k r) c le = (go (a .lab) (omega arith), fresh-labels k c (o
 
 -- what takes no less than a tree folds onto its top or onto a node below
 pub contained-folds : (a : Tag) (k : Forest Tag) (b : Tag) (j : Forest Tag) → count src (tree a k bare) ≡ 1 → count dst (tree a k bare) ≡ 1
-    → ((D : Doc) → Document D → (m n : ℕ) → Takes (tree a k bare) D m n → Takes (tree b j bare) D m n) → Deep (λ t u. Onto b j t u) (tree a k bare)
+    → ((D : Doc) → Document D → (m n : ℕ) → Takes (tree a k bare) D m n → Takes (tree b j bare) D m n) → Deep (Onto b j) (tree a k bare)
 contained-folds a k b j oneS oneD le =
     let c : ℕ = fresh (tree b j bare) in
     takes-folds c a k oneS oneD b j (fresh-labels (tree b j bare) c (omega arith))
@@ -201,14 +201,14 @@ module _ (D : Doc) (m n : ℕ) (b : Tag) (j : Forest Tag) where
   under-in none w u = u
   under-in (some v) w u = u .inside
 
-  deep-lays : (f : Forest Tag) (v : Option ℕ) → Deep (λ t u. Onto b j t u) f → Lays D (OnPair D m n) f v
+  deep-lays : (f : Forest Tag) (v : Option ℕ) → Deep (Onto b j) f → Lays D (OnPair D m n) f v
       → (w : ℕ) × In D w × OnPair D m n b w × Lays D (OnPair D m n) j (some w)
   deep-lays bare v x l = absurd x
   deep-lays (tree a k r) v (inl (p, o)) ((w, u, on, l), l′) = (w, under-in v w u, on-pair-mono D m n b a w p on, folds-lays D (OnPair D m n) (on-pair-mono D m n) j k (some w) o l)
   deep-lays (tree a k r) v (inr (inl x)) ((w, u, on, l), l′) = deep-lays k (some w) x l
   deep-lays (tree a k r) v (inr (inr x)) (l, l′) = deep-lays r v x l′
 
-  pub folds-contained : (a : Tag) (k : Forest Tag) → Deep (λ t u. Onto b j t u) (tree a k bare) → Takes (tree a k bare) D m n → Takes (tree b j bare) D m n
+  pub folds-contained : (a : Tag) (k : Forest Tag) → Deep (Onto b j) (tree a k bare) → Takes (tree a k bare) D m n → Takes (tree b j bare) D m n
   folds-contained a k x l = (deep-lays (tree a k bare) none x l, tt)
 
 -- ------------------------------------------------------------------ heights
@@ -224,16 +224,16 @@ any-height P h (tree b j r) low (inr x) = let z = any-height P h r low x in omeg
 folds-height : (f g : Forest Tag) → Folds f g → height f ≤ height g
 folds-height bare g x = omega arith
 folds-height (tree a k r) g (x, y) =
-    let p = any-height (λ b j. Onto a k b j) (height k) g (λ b j o. folds-height k j (o .1)) x in let q = folds-height r g y in omega arith
+    let p = any-height (Onto a k) (height k) g (λ b j o. folds-height k j (o .1)) x in let q = folds-height r g y in omega arith
 
-deep-height : (a : Tag) (k f : Forest Tag) → Deep (λ b j. Onto a k b j) f → suc (height k) ≤ height f
+deep-height : (a : Tag) (k f : Forest Tag) → Deep (Onto a k) f → suc (height k) ≤ height f
 deep-height a k bare x = absurd x
 deep-height a k (tree b j r) (inl (t, o)) = let z = folds-height k j o in omega arith
 deep-height a k (tree b j r) (inr (inl x)) = let z = deep-height a k j x in omega arith
 deep-height a k (tree b j r) (inr (inr x)) = let z = deep-height a k r x in omega arith
 
 -- a tree that is not lower folds onto the top or nowhere
-deep-top : (a : Tag) (k : Forest Tag) (b : Tag) (j : Forest Tag) → height j ≤ height k → Deep (λ t u. Onto a k t u) (tree b j bare) → Onto a k b j
+deep-top : (a : Tag) (k : Forest Tag) (b : Tag) (j : Forest Tag) → height j ≤ height k → Deep (Onto a k) (tree b j bare) → Onto a k b j
 deep-top a k b j le (inl o) = o
 deep-top a k b j le (inr (inl x)) = let z = deep-height a k j x in absurd (omega arith)
 deep-top a k b j le (inr (inr x)) = absurd x
@@ -242,12 +242,13 @@ deep-top a k b j le (inr (inr x)) = absurd x
 pub mutual-folds : (a : Tag) (k : Forest Tag) (b : Tag) (j : Forest Tag) → count src (tree a k bare) ≡ 1 → count dst (tree a k bare) ≡ 1
     → count src (tree b j bare) ≡ 1 → count dst (tree b j bare) ≡ 1 → Agree (Takes (tree a k bare)) (Takes (tree b j bare)) → Onto a k b j × Onto b j a k
 mutual-folds a k b j sa da sb db eq =
-    let x : Deep (λ t u. Onto a k t u) (tree b j bare) = contained-folds b j a k sb db (λ D good m n. (eq D good m n) .1) in
-    let y : Deep (λ t u. Onto b j t u) (tree a k bare) = contained-folds a k b j sa da (λ D good m n. (eq D good m n) .0) in
+    let x : Deep (Onto a k) (tree b j bare) = contained-folds b j a k sb db (λ D good m n. (eq D good m n) .1) in
+    let y : Deep (Onto b j) (tree a k bare) = contained-folds a k b j sa da (λ D good m n. (eq D good m n) .0) in
     let hx = deep-height a k (tree b j bare) x in
     let hy = deep-height b j (tree a k bare) y in
     (deep-top a k b j (omega arith) x, deep-top b j a k (omega arith) y)
 
+-- .. and so do the trees of two tree queries
 pub agree-equal : (f g : Forest Tag) → QueryTree f → QueryTree g → Agree (Takes f) (Takes g) → Equal f g
 agree-equal f g x y eq =
     let (o, o′) = mutual-folds (x .root) (x .below) (y .root) (y .below) (rw (x .top) at (x .source)) (rw (x .top) at (x .dest)) (rw (y .top) at (y .source)) (rw (y .top) at (y .dest))

@@ -1,5 +1,5 @@
--- The nodes of a tree numbered in preorder, each with its parent's number: its own document and its own table are written from them.
--- Among others: every node but the top has its parent before it, and a mark that one node bears stands at one number.
+-- The nodes of a tree numbered in preorder, each with its parent's number; the tree's own document (Canon) and its own table (Tables) are written
+-- from them. Every node but the top has its parent before it, and a mark that one node bears stands at one number.
 use mathlib.Core.Path.{_≡_, refl, ap, subst, _∙_}
 use mathlib.Core.Logic.{_⊎_, inl, inr}
 use mathlib.Core.Option.{Option, none, some}

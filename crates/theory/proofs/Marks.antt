@@ -18,7 +18,7 @@ use Rattle.theory.proofs.Labels.{LabIn, LabsIn}
 use Rattle.meaning.specs.Image.{ordered}
 use Rattle.theory.proofs.Minimal.{minimal-to}
 use Rattle.theory.proofs.Order.{ordered-count}
-use Rattle.theory.proofs.Bridge.{one-top}
+use Rattle.theory.proofs.Children.{one-top}
 use Rattle.theory.proofs.Weigh.{one-source, one-dest}
 
 -- ------------------------------------------------------------------ what every removal of a tree keeps, folding keeps
@@ -41,12 +41,12 @@ module _ (E : Forest Tag → Forest Tag → Type 0) (O : Dropping E) where
 
   add-left : (a : Tag) (k f : Forest Tag) → E (add a k f) (tree a k f)
   unfolding add
-  add-left a k f = go (decAny (λ b j. Onto a k b j) (decOnto a k) f)
+  add-left a k f = go (decAny (Onto a k) (decOnto a k) f)
     where
       S : Forest Tag
       S = sift (λ b j. Onto b j a k) (λ b j. decOnto b j a k) f
 
-      go : (c : Dec (Any (λ b j. Onto a k b j) f)) → E (pick c f (tree a k S)) (tree a k f)
+      go : (c : Dec (Any (Onto a k) f)) → E (pick c f (tree a k S)) (tree a k f)
       go (yes x) = O .drop a k f
       go (no nx) = O .under a k k S f (O .same k) (sift-left (λ b j. Onto b j a k) (λ b j. decOnto b j a k) f)
 
@@ -75,14 +75,14 @@ module _ (q : Tag → Bool) (mono : (a b : Tag) → TagLe a b → MarkLe (q a) (
   any-count P (tree b j r) each (inr x) = let z = any-count P r each x in omega arith
 
   -- what folds onto a forest without the mark has none
-  pub folds-count : (f g : Forest Tag) → Folds f g → 1 ≤ count q f → 1 ≤ count q g
+  folds-count : (f g : Forest Tag) → Folds f g → 1 ≤ count q f → 1 ≤ count q g
   folds-count bare g x one = absurd (omega arith)
   folds-count (tree a k r) g (x, y) one = go (folds-count k) (folds-count r g y) (decLt 0 (count q r)) (decLt 0 (count q k))
     where
       go : ((j : Forest Tag) → Folds k j → 1 ≤ count q k → 1 ≤ count q j) → (1 ≤ count q r → 1 ≤ count q g) → Dec (0 < count q r) → Dec (0 < count q k) → 1 ≤ count q g
       go ik ir (yes lt) c = ir lt
-      go ik ir (no nl) (yes lt) = any-count (λ b j. Onto a k b j) g (λ b j o. let z = ik j (o .1) lt in omega arith) x
-      go ik ir (no nl) (no nl′) = any-count (λ b j. Onto a k b j) g (λ b j o. let z = mark-bit (q a) (q b) (mono a b (o .0)) in omega arith) x
+      go ik ir (no nl) (yes lt) = any-count (Onto a k) g (λ b j o. let z = ik j (o .1) lt in omega arith) x
+      go ik ir (no nl) (no nl′) = any-count (Onto a k) g (λ b j o. let z = mark-bit (q a) (q b) (mono a b (o .0)) in omega arith) x
 
   -- one node that bears the mark stays one
   pub minimal-count : (f : Forest Tag) → count q f ≡ 1 → count q (minimal f) ≡ 1

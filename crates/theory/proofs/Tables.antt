@@ -15,7 +15,7 @@ use Rattle.meaning.specs.Gluing.{depth, depthRow}
 use Rattle.meaning.specs.Tree.{Forest, bare, tree, Tag, size, sameLink, choose, kidsFrom, labRow, tagOf, plant, grow, treeOf}
 use Rattle.theory.proofs.Count.{count, src, dst}
 use Rattle.theory.proofs.Look.{never, look-lt, look-map}
-use Rattle.theory.proofs.Bridge.{same-link, link-same}
+use Rattle.theory.proofs.Children.{same-link, link-same}
 use Rattle.theory.proofs.Marks.{QueryTree}
 use Rattle.theory.proofs.Entries.{Entry, entries, length-entries, Later, entry-later, Part, part-head, part-kids, part-rest, part-self, Below, entry-parent, Marked, placeOf, place-marked, marked-place}
 
@@ -86,6 +86,7 @@ module _ (a : Tag) (k : Forest Tag) where
     dLive = live-place dst oneD;
   }
 
+-- a tree with one top, one s and one d is a tree query
 pub table-query : (F : Forest Tag) → QueryTree F → TreeQuery (tableOf F)
 table-query F t = rw (t .top) (one-top-query (t .root) (t .below) (rw (t .top) at (t .source)) (rw (t .top) at (t .dest)))
 

@@ -15,7 +15,7 @@ use Rattle.meaning.specs.Tree.{Forest, tree, Tag, size, choose, kidsFrom, tagOf
 use Rattle.theory.proofs.Count.{bit, count, src, dst, size-count}
 use Rattle.theory.proofs.Look.{live-lt, lt-live}
 use Rattle.theory.proofs.Levels.{level-bound}
-use Rattle.theory.proofs.Bridge.{Among, row-of-kid}
+use Rattle.theory.proofs.Children.{Among, row-of-kid}
 
 -- ------------------------------------------------------------------ sums
 -- g over the numbers of a list
