@@ -37,3 +37,8 @@ pub mod Operands
 pub mod Limits
 pub mod Reread
 pub mod Accepted
+pub mod Same
+pub mod Least
+pub mod Again
+pub mod Bits
+pub mod Index
