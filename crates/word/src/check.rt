@@ -1,0 +1,1 @@
+// The check of a word: refusals 1 to 6.
