@@ -11,6 +11,9 @@ use lib.ListN.{length, getD, drop, drop-of-length-le}
 use lib.Seq.{drop-cons}
 use lib.Dec.{ltb, leb, eqb}
 use borrow.Author.Tests.{le-ltb, lt-ltb, le-leb, lt-leb, ne-eqb, eqb-true, eqb-false, leb-true}
+use Rattle.word.specs.Answer.{gotOf}
+use Rattle.word.specs.declared.number.Read.{Read}
+use Rattle.word.specs.declared.number.Read.the-variants.{Number}
 use Rattle.meaning.specs.Number.{Got, got, broken, more, lone, groups, notAbove, largestSign, readNumber}
 
 -- ------------------------------------------------------------------ one group
@@ -69,6 +72,20 @@ notAbove-got top broken v n e = e
 pub read-some : (s : List ℕ) (at v n : ℕ) → readNumber s at ≡ got v n → 0 < n
 unfolding readNumber
 read-some s at v n e = groups-got true (drop at s) v n (notAbove-got largestSign (groups true (drop at s)) v n e) .0
+
+-- a number stands at `at`, and `next` is the place behind its bytes
+pub record NumberAt (s : List ℕ) (at v next : ℕ) : Type 0 where
+  pub bytes : ℕ
+  pub read : readNumber s at ≡ got v bytes
+  pub behind : next ≡ at + bytes
+  pub moved : at < next
+
+-- what the reader's answer tells its caller
+pub number-at : (s : List ℕ) (at : ℕ) {r : Read} {v next : ℕ} → gotOf at r ≡ readNumber s at → r ≡ Number v next → NumberAt s at v next
+number-at s at {r} {v} {next} e q =
+    let g : readNumber s at ≡ got v (next - at) = sym (rw q at e) in
+    let l : 0 < next - at = read-some s at v (next - at) g in
+    record { bytes = next - at; read = g; behind = omega arith; moved = omega arith }
 
 -- ------------------------------------------------------------------ the groups so far
 -- what the groups so far stand for, the weight of the next one and the bytes they took, with what the bytes to come give

@@ -1,3 +1,5 @@
 -- Laws over plain lists and numbers; the folders beside prove the functions with them.
 pub mod Groups
 pub mod Signs
+pub mod Run
+pub mod Counting
