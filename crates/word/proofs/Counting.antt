@@ -25,35 +25,35 @@ use Rattle.word.proofs.Groups.{number-at}
 use Rattle.word.proofs.Run.{run-end, run-broken, run-refused, run-sign}
 
 -- one sign, on the counts
-abbrev pub count : Kind → Counts → ℕ → Outcome Counts
-count Operand c at = cond (ltb (c .pending) 256) (answered (record { pending = c .pending + 1; steps = c .steps })) (refused 4 at)
-count Step c at =
+abbrev countBy : Kind → Counts → ℕ → Outcome Counts
+countBy Operand c at = cond (ltb (c .pending) 256) (answered (record { pending = c .pending + 1; steps = c .steps })) (refused 4 at)
+countBy Step c at =
     cond (ltb (c .pending) 256) (cond (ltb (c .steps) 255) (answered (record { pending = c .pending + 1; steps = c .steps + 1 })) (refused 5 at)) (refused 4 at)
-count Unary c at = cond (ltb (c .pending) 1) (refused 3 at) (answered c)
-count Binary c at = cond (ltb (c .pending) 2) (refused 3 at) (answered (record { pending = c .pending - 1; steps = c .steps }))
+countBy Unary c at = cond (ltb (c .pending) 1) (refused 3 at) (answered c)
+countBy Binary c at = cond (ltb (c .pending) 2) (refused 3 at) (answered (record { pending = c .pending - 1; steps = c .steps }))
 
 andThen-cond : {A B : Type 0} (t : Bool) (a b : Outcome A) (f : A → Outcome B) → andThen (cond t a b) f ≡ cond t (andThen a f) (andThen b f)
 andThen-cond true a b f = refl
 andThen-cond false a b f = refl
 
 -- counting before a sign is counting after it
-count-applied : (s : Sign) (step : Bool) (st : Pending) (at : ℕ) → counting (applied s step st at) ≡ count (kindBy s step) (countsOf st) at
+count-applied : (s : Sign) (step : Bool) (st : Pending) (at : ℕ) → counting (applied s step st at) ≡ countBy (kindBy s step) (countsOf st) at
 count-applied (operand e) false st at = simp (andThen-cond, add-one)
 count-applied (operand e) true st at = simp (andThen-cond, add-one)
 count-applied (unary f) step st at = onto (st .operands)
   where
-    onto : (es : List Expr) → counting (onOne f es at (st .steps)) ≡ count Unary (record { pending = length es; steps = st .steps }) at
+    onto : (es : List Expr) → counting (onOne f es at (st .steps)) ≡ countBy Unary (record { pending = length es; steps = st .steps }) at
     onto [] = refl
     onto (e ∷ es) = rw (le-ltb (suc (length es)) 1 (omega arith))
 count-applied (binary f) step st at = onto (st .operands)
   where
-    onto : (es : List Expr) → counting (onTwo f es at (st .steps)) ≡ count Binary (record { pending = length es; steps = st .steps }) at
+    onto : (es : List Expr) → counting (onTwo f es at (st .steps)) ≡ countBy Binary (record { pending = length es; steps = st .steps }) at
     onto [] = refl
     onto (e ∷ []) = refl
     onto (e ∷ (d ∷ es)) = let k : suc (suc (length es)) - 1 ≡ suc (length es) = omega arith in rw (le-ltb (suc (suc (length es))) 2 (omega arith), k)
 
 -- the same of a sign whose kind and of pending operands whose counts are known
-pub count-takes : (sign : ℕ) (st : Pending) (at : ℕ) {K : Kind} {counts : Counts} → kindOf sign ≡ K → countsOf st ≡ counts → counting (takes sign st at) ≡ count K counts at
+pub count-takes : (sign : ℕ) (st : Pending) (at : ℕ) {K : Kind} {counts : Counts} → kindOf sign ≡ K → countsOf st ≡ counts → counting (takes sign st at) ≡ countBy K counts at
 unfolding takes kindOf
 count-takes sign st at p q = rw (← p, ← q) (count-applied (signOf sign) (isStep sign) st at)
 

@@ -17,6 +17,7 @@ ghost use Prim.Native.Nat.{ℕ};
 ghost use Rattle.meaning.specs.Word.{Pending, takes, readWord};
 ghost use Rattle.word.specs.Answer.{countsOf, counting, turnOf, checkedOf, verdict};
 
+// The pending operands and the steps so far, counted.
 pub struct Counts {
     pub pending: usize,
     pub steps: usize,
@@ -28,9 +29,16 @@ pub enum Turn {
     Stop(u32),
 }
 
+// The word is accepted, or refused with a number and a place.
 pub enum Checked {
     Accepted,
     Refused { number: u32, place: usize },
+}
+
+fn count(pending: usize, steps: usize) -> Counts
+    ensures { λ r. ⌜ r ≡ record { pending = pending; steps = steps } ⌝ }
+{
+    Counts { pending, steps }
 }
 
 // One sign, whatever the pending operands are that `counts` counts; "at one sign 4 goes before 5".
@@ -44,10 +52,7 @@ pub fn take_sign(counts: Counts, sign: u32) -> Turn
             if MOST_PENDING <= pending {
                 return Turn::Stop(TOO_MANY_PENDING);
             }
-            Turn::Next(Counts {
-                pending: pending + 1,
-                steps,
-            })
+            Turn::Next(count(pending + 1, steps))
         }
         Kind::Step => {
             if MOST_PENDING <= pending {
@@ -56,10 +61,7 @@ pub fn take_sign(counts: Counts, sign: u32) -> Turn
             if MOST_STEPS <= steps {
                 return Turn::Stop(TOO_MANY_STEPS);
             }
-            Turn::Next(Counts {
-                pending: pending + 1,
-                steps: steps + 1,
-            })
+            Turn::Next(count(pending + 1, steps + 1))
         }
         Kind::Unary => {
             if pending < 1 {
@@ -71,10 +73,7 @@ pub fn take_sign(counts: Counts, sign: u32) -> Turn
             if pending < 2 {
                 return Turn::Stop(LACKS_OPERANDS);
             }
-            Turn::Next(Counts {
-                pending: pending - 1,
-                steps,
-            })
+            Turn::Next(count(pending - 1, steps))
         }
     }
 }
@@ -89,10 +88,7 @@ pub fn check_word(word: &[u8]) -> Checked
             place: LONGEST_WORD,
         };
     }
-    let mut counts = Counts {
-        pending: 0,
-        steps: 0,
-    };
+    let mut counts = count(0, 0);
     let mut at: usize = 0;
     while at < word.len() {
         let Read::Number { value, next } = read_number(word, at) else {

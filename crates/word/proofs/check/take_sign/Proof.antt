@@ -6,79 +6,92 @@ use Rattle.word.proofs.check.take_sign.Statement.{statement}
 use Rattle.word.proofs.check.take_sign.Tie as tie
 use Rattle.word.proofs.check.take_sign.Reads as reads
 use Rattle.word.proofs.check.take_sign.Lts as lts
+use Rattle.word.proofs.check.count.Reads as count-reads
 use Rattle.word.proofs.sign.kind_of.Reads as kind-of-reads
 
--- src/check.rt:36:11
+-- src/check.rt:50:11
 kind-of-requires : tie.Need-kind-of-requires
 kind-of-requires c κs = search needs
 
--- src/check.rt:38:16
+-- src/check.rt:52:16
 enum-told : tie.Need-enum-told
 enum-told c = search needs
 
--- src/check.rt:39:17
+-- src/check.rt:53:17
 returns : tie.Need-returns
 returns c st at e = rw (count-takes _ st at (sym (c .before .before .before .kind-of .ensures) ∙ c .before .enum-told .given .1) e, le-ltb _ _ (c .if1 .taken))
 
--- src/check.rt:41:42
-add-t8 : tie.Need-add-t8
-add-t8 c = search needs
+-- src/check.rt:55:30
+add-count : tie.Need-add-count
+add-count c = search needs
 
--- src/check.rt:44:16
+-- src/check.rt:55:24
+count-requires : tie.Need-count-requires
+count-requires c κs = search needs
+
+-- src/check.rt:58:16
 enum-told-2 : tie.Need-enum-told-2
 enum-told-2 c = search needs
 
--- src/check.rt:45:17
+-- src/check.rt:59:17
 returns-2 : tie.Need-returns-2
 returns-2 c st at e = rw (count-takes _ st at (sym (c .before .before .before .kind-of .ensures) ∙ c .before .enum-told2 .given .1) e, le-ltb _ _ (c .if2 .taken))
 
--- src/check.rt:48:17
+-- src/check.rt:62:17
 returns-3 : tie.Need-returns-3
 returns-3 c st at e = rw (count-takes _ st at (sym (c .before .before .before .before .kind-of .ensures) ∙ c .before .before .enum-told2 .given .1) e, lt-ltb _ _ (c .before .if2 .left), le-ltb _ _ (c .if3 .taken))
 
--- src/check.rt:50:42
-add-t11 : tie.Need-add-t11
-add-t11 c = search needs
+-- src/check.rt:64:30
+add-count-2 : tie.Need-add-count-2
+add-count-2 c = search needs
 
--- src/check.rt:50:62
-add-t12 : tie.Need-add-t12
-add-t12 c = search needs
+-- src/check.rt:64:43
+add-count-3 : tie.Need-add-count-3
+add-count-3 c = search needs
 
--- src/check.rt:53:16
+-- src/check.rt:64:24
+count-requires-2 : tie.Need-count-requires-2
+count-requires-2 c κs = search needs
+
+-- src/check.rt:67:16
 enum-told-3 : tie.Need-enum-told-3
 enum-told-3 c = search needs
 
--- src/check.rt:54:17
+-- src/check.rt:68:17
 returns-4 : tie.Need-returns-4
 returns-4 c st at e = rw (count-takes _ st at (sym (c .before .before .before .kind-of .ensures) ∙ c .before .enum-told3 .given .1) e, lt-ltb _ _ (c .if4 .taken))
 
--- src/check.rt:59:16
+-- src/check.rt:73:16
 enum-told-4 : tie.Need-enum-told-4
 enum-told-4 c = search needs
 
--- src/check.rt:60:17
+-- src/check.rt:74:17
 returns-5 : tie.Need-returns-5
 returns-5 c st at e = rw (count-takes _ st at (sym (c .before .before .before .kind-of .ensures) ∙ c .before .enum-told4 .given .1) e, lt-ltb _ _ (c .if5 .taken))
 
--- src/check.rt:62:42
-sub-t16 : tie.Need-sub-t16
-sub-t16 c = search needs
+-- src/check.rt:76:30
+sub-count : tie.Need-sub-count
+sub-count c = search needs
 
--- src/check.rt:31:1
+-- src/check.rt:76:24
+count-requires-3 : tie.Need-count-requires-3
+count-requires-3 c κs = search needs
+
+-- src/check.rt:45:1
 returns-6 : tie.Need-returns-6
-returns-6 c st at e = rw (count-takes _ st at (sym (c .before .before .before .kind-of .ensures) ∙ c .before .enum-told .given .1) e, lt-ltb _ _ (c .if1 .left))
+returns-6 c st at e = rw (c .count .ensures, count-takes _ st at (sym (c .before .before .before .before .kind-of .ensures) ∙ c .before .before .enum-told .given .1) e, lt-ltb _ _ (c .before .if1 .left))
 
--- src/check.rt:31:1
+-- src/check.rt:45:1
 returns-7 : tie.Need-returns-7
-returns-7 c st at e = rw (count-takes _ st at (sym (c .before .before .before .before .kind-of .ensures) ∙ c .before .before .enum-told2 .given .1) e, lt-ltb _ _ (c .before .if2 .left), lt-ltb _ _ (c .if3 .left))
+returns-7 c st at e = rw (c .count2 .ensures, count-takes _ st at (sym (c .before .before .before .before .before .kind-of .ensures) ∙ c .before .before .before .enum-told2 .given .1) e, lt-ltb _ _ (c .before .before .if2 .left), lt-ltb _ _ (c .before .if3 .left))
 
--- src/check.rt:31:1
+-- src/check.rt:45:1
 returns-8 : tie.Need-returns-8
 returns-8 c st at e = rw (count-takes _ st at (sym (c .before .before .before .kind-of .ensures) ∙ c .before .enum-told3 .given .1) e, le-ltb _ _ (c .if4 .left))
 
--- src/check.rt:31:1
+-- src/check.rt:45:1
 returns-9 : tie.Need-returns-9
-returns-9 c st at e = rw (count-takes _ st at (sym (c .before .before .before .kind-of .ensures) ∙ c .before .enum-told4 .given .1) e, le-ltb _ _ (c .if5 .left))
+returns-9 c st at e = rw (c .count3 .ensures, count-takes _ st at (sym (c .before .before .before .before .kind-of .ensures) ∙ c .before .before .enum-told4 .given .1) e, le-ltb _ _ (c .before .if5 .left))
 
 pub take-sign-spec : {M : Type 1} → statement M
 take-sign-spec =
@@ -87,17 +100,20 @@ take-sign-spec =
     kind-of-requires
     enum-told
     returns
-    add-t8
+    add-count
+    count-requires
     enum-told-2
     returns-2
     returns-3
-    add-t11
-    add-t12
+    add-count-2
+    add-count-3
+    count-requires-2
     enum-told-3
     returns-4
     enum-told-4
     returns-5
-    sub-t16
+    sub-count
+    count-requires-3
     returns-6
     returns-7
     returns-8
