@@ -4,7 +4,6 @@ use mathlib.Core.Bool.{Bool, true, false, cond}
 use mathlib.Core.List.{List, [], _∷_}
 use Prim.Native.Nat.{ℕ, zero, suc, _+_, _-_, _<_, _≤_}
 use native.Mathlib.Numerals.{add-one}
-use native.Mathlib.Nat.{sub-zero}
 use native.Mathlib.Omega.{arith}
 use lib.ListN.{length}
 use lib.Dec.{ltb, eqb}
@@ -22,7 +21,7 @@ use Rattle.word.specs.declared.check.Turn.the-variants.{Next, Stop}
 use Rattle.word.specs.declared.number.Read.{Read}
 use Rattle.word.specs.declared.number.Read.the-variants.{Number, Broken}
 use Rattle.word.proofs.Groups.{number-at}
-use Rattle.word.proofs.Run.{run-end, run-broken, run-refused, run-sign}
+use Rattle.word.proofs.Run.{runFrom, nothingPending, run-long, run-start, run-end, run-broken, run-refused, run-sign}
 
 -- one sign, on the counts
 abbrev countBy : Kind → Counts → ℕ → Outcome Counts
@@ -52,10 +51,44 @@ count-applied (binary f) step st at = onto (st .operands)
     onto (e ∷ []) = refl
     onto (e ∷ (d ∷ es)) = let k : suc (suc (length es)) - 1 ≡ suc (length es) = omega arith in rw (le-ltb (suc (suc (length es))) 2 (omega arith), k)
 
--- the same of a sign whose kind and of pending operands whose counts are known
-pub count-takes : (sign : ℕ) (st : Pending) (at : ℕ) {K : Kind} {counts : Counts} → kindOf sign ≡ K → countsOf st ≡ counts → counting (takes sign st at) ≡ countBy K counts at
-unfolding takes kindOf
-count-takes sign st at p q = rw (← p, ← q) (count-applied (signOf sign) (isStep sign) st at)
+module _ (sign : ℕ) (st : Pending) (at : ℕ) {counts : Counts} (e : countsOf st ≡ counts) where
+  count-takes : {K : Kind} → kindOf sign ≡ K → counting (takes sign st at) ≡ countBy K counts at
+  unfolding takes kindOf
+  count-takes k = rw (← k, ← e) (count-applied (signOf sign) (isStep sign) st at)
+
+  module _ (k : kindOf sign ≡ Operand) where
+    -- refusal 4: "an operand sign would make 257 pending operands"
+    pub operand-refused : 256 ≤ counts .pending → refused 4 at ≡ counting (takes sign st at)
+    operand-refused h = rw (count-takes k, le-ltb (counts .pending) 256 h)
+
+    pub operand-taken : counts .pending < 256 → answered (record { pending = counts .pending + 1; steps = counts .steps }) ≡ counting (takes sign st at)
+    operand-taken h = rw (count-takes k, lt-ltb (counts .pending) 256 h)
+
+  module _ (k : kindOf sign ≡ Step) where
+    pub step-refused : 256 ≤ counts .pending → refused 4 at ≡ counting (takes sign st at)
+    step-refused h = rw (count-takes k, le-ltb (counts .pending) 256 h)
+
+    -- refusal 5: "a step sign is the 256th step"; "at one sign 4 goes before 5"
+    pub step-256th : counts .pending < 256 → 255 ≤ counts .steps → refused 5 at ≡ counting (takes sign st at)
+    step-256th h l = rw (count-takes k, lt-ltb (counts .pending) 256 h, le-ltb (counts .steps) 255 l)
+
+    pub step-taken : counts .pending < 256 → counts .steps < 255 → answered (record { pending = counts .pending + 1; steps = counts .steps + 1 }) ≡ counting (takes sign st at)
+    step-taken h l = rw (count-takes k, lt-ltb (counts .pending) 256 h, lt-ltb (counts .steps) 255 l)
+
+  module _ (k : kindOf sign ≡ Unary) where
+    -- refusal 3: "an operator lacks operands"
+    pub unary-refused : counts .pending < 1 → refused 3 at ≡ counting (takes sign st at)
+    unary-refused h = rw (count-takes k, lt-ltb (counts .pending) 1 h)
+
+    pub unary-taken : 1 ≤ counts .pending → answered counts ≡ counting (takes sign st at)
+    unary-taken h = rw (count-takes k, le-ltb (counts .pending) 1 h)
+
+  module _ (k : kindOf sign ≡ Binary) where
+    pub binary-refused : counts .pending < 2 → refused 3 at ≡ counting (takes sign st at)
+    binary-refused h = rw (count-takes k, lt-ltb (counts .pending) 2 h)
+
+    pub binary-taken : 2 ≤ counts .pending → answered (record { pending = counts .pending - 1; steps = counts .steps }) ≡ counting (takes sign st at)
+    binary-taken h = rw (count-takes k, le-ltb (counts .pending) 2 h)
 
 -- ------------------------------------------------------------------ what the counts tell
 counting-answered : (o : Outcome Pending) {c : Counts} → answered c ≡ counting o → (st : Pending) × (o ≡ answered st) × (countsOf st ≡ c)
@@ -75,16 +108,13 @@ verdict-onlyOne (e ∷ (d ∷ es)) end = rw (ne-eqb (suc (suc (length es))) 1 (�
 pub record Checking (w : List ℕ) (counts : Counts) (at : ℕ) : Type 0 where
   pub left : Pending
   pub same : countsOf left ≡ counts
-  pub whole : readWord w ≡ run (length w - at) w at left
+  pub whole : readWord w ≡ runFrom w at left
 
--- refusal 1
-pub too-long : (w : List ℕ) → 4096 < length w → refused 1 4096 ≡ verdict (readWord w)
-unfolding readWord
-too-long w h = rw (lt-ltb 4096 (length w) h)
+pub checking-long : (w : List ℕ) → 4096 < length w → refused 1 4096 ≡ verdict (readWord w)
+checking-long w h = rw (run-long w h)
 
 pub checking-start : (w : List ℕ) → length w ≤ 4096 → Checking w (record { pending = 0; steps = 0 }) 0
-unfolding readWord
-checking-start w h = record { left = record { operands = []; steps = 0 }; same = refl; whole = rw (le-ltb 4096 (length w) h, sub-zero) }
+checking-start w h = record { left = nothingPending; same = refl; whole = run-start w h }
 
 module _ (w : List ℕ) (counts : Counts) (at : ℕ) (r : Checking w counts at) where
   module _ (h : at < length w) {a : Read} (g : gotOf at a ≡ readNumber w at) where

@@ -3,3 +3,4 @@ pub mod Groups
 pub mod Signs
 pub mod Run
 pub mod Counting
+pub mod Accepted

@@ -3,7 +3,7 @@ use native.Mathlib.Omega.{arith}
 use lib.ListN.{length}
 use borrow.Author.Needs.{needs}
 use Rattle.word.proofs.Groups.{number-at}
-use Rattle.word.proofs.Counting.{Checking, too-long, checking-start, checking-broken, checking-stop, checking-next, checking-one, checking-other}
+use Rattle.word.proofs.Counting.{Checking, checking-long, checking-start, checking-broken, checking-stop, checking-next, checking-one, checking-other}
 use Rattle.word.proofs.check.check_word.Statement.{statement}
 use Rattle.word.proofs.check.check_word.Tie as tie
 use Rattle.word.proofs.check.check_word.Reads as reads
@@ -20,7 +20,7 @@ abbrev μ-loop : tie.MeasureT-loop
 
 -- src/check.rt:86:9
 returns : tie.Need-returns Inv-loop μ-loop
-returns c = too-long _ (c .if1 .taken)
+returns c = checking-long _ (c .if1 .taken)
 
 -- src/check.rt:91:9
 count-requires : tie.Need-count-requires Inv-loop μ-loop

@@ -1,6 +1,6 @@
 use mathlib.Core.Path.{sym, _∙_}
-use borrow.Author.Tests.{lt-ltb, le-ltb}
-use Rattle.word.proofs.Counting.{count-takes}
+use native.Mathlib.Omega.{arith}
+use Rattle.word.proofs.Counting.{operand-refused, operand-taken, step-refused, step-256th, step-taken, unary-refused, unary-taken, binary-refused, binary-taken}
 use borrow.Author.Needs.{needs}
 use Rattle.word.proofs.check.take_sign.Statement.{statement}
 use Rattle.word.proofs.check.take_sign.Tie as tie
@@ -19,7 +19,7 @@ enum-told c = search needs
 
 -- src/check.rt:53:17
 returns : tie.Need-returns
-returns c st at e = rw (count-takes _ st at (sym (c .before .before .before .kind-of .ensures) ∙ c .before .enum-told .given .1) e, le-ltb _ _ (c .if1 .taken))
+returns c st at e = operand-refused _ st at e (sym (c .before .before .before .kind-of .ensures) ∙ c .before .enum-told .given .1) (omega arith)
 
 -- src/check.rt:55:30
 add-count : tie.Need-add-count
@@ -35,11 +35,11 @@ enum-told-2 c = search needs
 
 -- src/check.rt:59:17
 returns-2 : tie.Need-returns-2
-returns-2 c st at e = rw (count-takes _ st at (sym (c .before .before .before .kind-of .ensures) ∙ c .before .enum-told2 .given .1) e, le-ltb _ _ (c .if2 .taken))
+returns-2 c st at e = step-refused _ st at e (sym (c .before .before .before .kind-of .ensures) ∙ c .before .enum-told2 .given .1) (omega arith)
 
 -- src/check.rt:62:17
 returns-3 : tie.Need-returns-3
-returns-3 c st at e = rw (count-takes _ st at (sym (c .before .before .before .before .kind-of .ensures) ∙ c .before .before .enum-told2 .given .1) e, lt-ltb _ _ (c .before .if2 .left), le-ltb _ _ (c .if3 .taken))
+returns-3 c st at e = step-256th _ st at e (sym (c .before .before .before .before .kind-of .ensures) ∙ c .before .before .enum-told2 .given .1) (omega arith) (omega arith)
 
 -- src/check.rt:64:30
 add-count-2 : tie.Need-add-count-2
@@ -59,7 +59,7 @@ enum-told-3 c = search needs
 
 -- src/check.rt:68:17
 returns-4 : tie.Need-returns-4
-returns-4 c st at e = rw (count-takes _ st at (sym (c .before .before .before .kind-of .ensures) ∙ c .before .enum-told3 .given .1) e, lt-ltb _ _ (c .if4 .taken))
+returns-4 c st at e = unary-refused _ st at e (sym (c .before .before .before .kind-of .ensures) ∙ c .before .enum-told3 .given .1) (omega arith)
 
 -- src/check.rt:73:16
 enum-told-4 : tie.Need-enum-told-4
@@ -67,7 +67,7 @@ enum-told-4 c = search needs
 
 -- src/check.rt:74:17
 returns-5 : tie.Need-returns-5
-returns-5 c st at e = rw (count-takes _ st at (sym (c .before .before .before .kind-of .ensures) ∙ c .before .enum-told4 .given .1) e, lt-ltb _ _ (c .if5 .taken))
+returns-5 c st at e = binary-refused _ st at e (sym (c .before .before .before .kind-of .ensures) ∙ c .before .enum-told4 .given .1) (omega arith)
 
 -- src/check.rt:76:30
 sub-count : tie.Need-sub-count
@@ -79,19 +79,19 @@ count-requires-3 c κs = search needs
 
 -- src/check.rt:45:1
 returns-6 : tie.Need-returns-6
-returns-6 c st at e = rw (c .count .ensures, count-takes _ st at (sym (c .before .before .before .before .kind-of .ensures) ∙ c .before .before .enum-told .given .1) e, lt-ltb _ _ (c .before .if1 .left))
+returns-6 c st at e = rw (c .count .ensures) (operand-taken _ st at e (sym (c .before .before .before .before .kind-of .ensures) ∙ c .before .before .enum-told .given .1) (omega arith))
 
 -- src/check.rt:45:1
 returns-7 : tie.Need-returns-7
-returns-7 c st at e = rw (c .count2 .ensures, count-takes _ st at (sym (c .before .before .before .before .before .kind-of .ensures) ∙ c .before .before .before .enum-told2 .given .1) e, lt-ltb _ _ (c .before .before .if2 .left), lt-ltb _ _ (c .before .if3 .left))
+returns-7 c st at e = rw (c .count2 .ensures) (step-taken _ st at e (sym (c .before .before .before .before .before .kind-of .ensures) ∙ c .before .before .before .enum-told2 .given .1) (omega arith) (omega arith))
 
 -- src/check.rt:45:1
 returns-8 : tie.Need-returns-8
-returns-8 c st at e = rw (count-takes _ st at (sym (c .before .before .before .kind-of .ensures) ∙ c .before .enum-told3 .given .1) e, le-ltb _ _ (c .if4 .left))
+returns-8 c st at e = unary-taken _ st at e (sym (c .before .before .before .kind-of .ensures) ∙ c .before .enum-told3 .given .1) (omega arith)
 
 -- src/check.rt:45:1
 returns-9 : tie.Need-returns-9
-returns-9 c st at e = rw (c .count3 .ensures, count-takes _ st at (sym (c .before .before .before .before .kind-of .ensures) ∙ c .before .before .enum-told4 .given .1) e, le-ltb _ _ (c .before .if5 .left))
+returns-9 c st at e = rw (c .count3 .ensures) (binary-taken _ st at e (sym (c .before .before .before .before .kind-of .ensures) ∙ c .before .before .enum-told4 .given .1) (omega arith))
 
 pub take-sign-spec : {M : Type 1} → statement M
 take-sign-spec =
