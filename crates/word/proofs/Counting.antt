@@ -24,7 +24,7 @@ use Rattle.word.proofs.Groups.{number-at}
 use Rattle.word.proofs.Run.{runFrom, nothingPending, run-long, run-start, run-end, run-broken, run-refused, run-sign}
 
 -- one sign, on the counts
-abbrev countBy : Kind → Counts → ℕ → Outcome Counts
+abbrev pub countBy : Kind → Counts → ℕ → Outcome Counts
 countBy Operand c at = cond (ltb (c .pending) 256) (answered (record { pending = c .pending + 1; steps = c .steps })) (refused 4 at)
 countBy Step c at =
     cond (ltb (c .pending) 256) (cond (ltb (c .steps) 255) (answered (record { pending = c .pending + 1; steps = c .steps + 1 })) (refused 5 at)) (refused 4 at)
@@ -52,7 +52,7 @@ count-applied (binary f) step st at = onto (st .operands)
     onto (e ∷ (d ∷ es)) = let k : suc (suc (length es)) - 1 ≡ suc (length es) = omega arith in rw (le-ltb (suc (suc (length es))) 2 (omega arith), k)
 
 module _ (sign : ℕ) (st : Pending) (at : ℕ) {counts : Counts} (e : countsOf st ≡ counts) where
-  count-takes : {K : Kind} → kindOf sign ≡ K → counting (takes sign st at) ≡ countBy K counts at
+  pub count-takes : {K : Kind} → kindOf sign ≡ K → counting (takes sign st at) ≡ countBy K counts at
   unfolding takes kindOf
   count-takes k = rw (← k, ← e) (count-applied (signOf sign) (isStep sign) st at)
 

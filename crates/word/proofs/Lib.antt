@@ -4,3 +4,5 @@ pub mod Signs
 pub mod Run
 pub mod Counting
 pub mod Accepted
+pub mod Limits
+pub mod Unique

@@ -18,13 +18,13 @@ ghost use Rattle.meaning.specs.Word.{Pending, takes, readWord};
 ghost use Rattle.word.specs.Answer.{countsOf, counting, turnOf, checkedOf, verdict};
 
 // The pending operands and the steps so far, counted.
-pub struct Counts {
-    pub pending: usize,
-    pub steps: usize,
+struct Counts {
+    pending: usize,
+    steps: usize,
 }
 
 // One sign leaves other counts, or is refused with this number.
-pub enum Turn {
+enum Turn {
     Next(Counts),
     Stop(u32),
 }
@@ -42,7 +42,7 @@ fn count(pending: usize, steps: usize) -> Counts
 }
 
 // One sign, whatever the pending operands are that `counts` counts; "at one sign 4 goes before 5".
-pub fn take_sign(counts: Counts, sign: u32) -> Turn
+fn take_sign(counts: Counts, sign: u32) -> Turn
     ensures { λ r. ⌜ ((st : Pending) (at : ℕ) → countsOf st ≡ counts → turnOf at r ≡ counting (takes sign st at)) ⌝ }
 {
     let pending = counts.pending;
