@@ -15,9 +15,9 @@ use Rattle.word.specs.Sign.{kindOf, kindBy}
 use Rattle.word.specs.Answer.{gotOf, countsOf, counting, turnOf, verdict}
 use Rattle.word.specs.declared.sign.Kind.{Kind}
 use Rattle.word.specs.declared.sign.Kind.the-variants.{Operand, Step, Unary, Binary}
-use Rattle.word.specs.declared.check.Counts.{Counts}
-use Rattle.word.specs.declared.check.Turn.{Turn}
-use Rattle.word.specs.declared.check.Turn.the-variants.{Next, Stop}
+use Rattle.word.specs.declared.whole.Counts.{Counts}
+use Rattle.word.specs.declared.whole.Turn.{Turn}
+use Rattle.word.specs.declared.whole.Turn.the-variants.{Next, Stop}
 use Rattle.word.specs.declared.number.Read.{Read}
 use Rattle.word.specs.declared.number.Read.the-variants.{Number, Broken}
 use Rattle.word.proofs.Groups.{number-at}

@@ -11,7 +11,7 @@ use Rattle.word.specs.Sign.{kindOf}
 use Rattle.word.specs.Answer.{countsOf, counting}
 use Rattle.word.specs.declared.sign.Kind.{Kind}
 use Rattle.word.specs.declared.sign.Kind.the-variants.{Operand, Step, Unary, Binary}
-use Rattle.word.specs.declared.check.Counts.{Counts}
+use Rattle.word.specs.declared.whole.Counts.{Counts}
 use Rattle.word.proofs.Counting.{countBy, count-takes}
 
 pub record Within (st : Pending) : Type 0 where

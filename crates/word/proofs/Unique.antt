@@ -8,8 +8,8 @@ use Rattle.meaning.specs.Word.{readWord}
 use Rattle.word.specs.Answer.{gotOf, checkedOf, verdict}
 use Rattle.word.specs.declared.number.Read.{Read}
 use Rattle.word.specs.declared.number.Read.the-variants.{Number, Broken}
-use Rattle.word.specs.declared.check.Checked.{Checked}
-use Rattle.word.specs.declared.check.Checked.the-variants.{Accepted, Refused}
+use Rattle.word.specs.declared.whole.Checked.{Checked}
+use Rattle.word.specs.declared.whole.Checked.the-variants.{Accepted, Refused}
 use Rattle.word.proofs.Groups.{number-at}
 
 pub read-unique : (w : List ℕ) (at : ℕ) (r r′ : Read) → gotOf at r ≡ readNumber w at → gotOf at r′ ≡ readNumber w at → r ≡ r′

@@ -5,11 +5,11 @@ use Rattle.meaning.specs.Number.{Got, got, broken}
 use Rattle.meaning.specs.Word.{Outcome, refused, answered, andThen, Pending}
 use Rattle.word.specs.declared.number.Read.{Read}
 use Rattle.word.specs.declared.number.Read.the-variants.{Number, Broken}
-use Rattle.word.specs.declared.check.Counts.{Counts}
-use Rattle.word.specs.declared.check.Turn.{Turn}
-use Rattle.word.specs.declared.check.Turn.the-variants.{Next, Stop}
-use Rattle.word.specs.declared.check.Checked.{Checked}
-use Rattle.word.specs.declared.check.Checked.the-variants.{Accepted, Refused}
+use Rattle.word.specs.declared.whole.Counts.{Counts}
+use Rattle.word.specs.declared.whole.Turn.{Turn}
+use Rattle.word.specs.declared.whole.Turn.the-variants.{Next, Stop}
+use Rattle.word.specs.declared.whole.Checked.{Checked}
+use Rattle.word.specs.declared.whole.Checked.the-variants.{Accepted, Refused}
 
 -- a number that was read at place `at`: its value and the bytes from `at` to the place after it
 abbrev pub gotOf : ℕ → Read → Got

@@ -2,4 +2,4 @@
 pub mod sign; // sign.rt: the table of signs
 pub mod refusal; // refusal.rt: the refusal numbers, and the limits that they speak of
 pub mod number; // number.rt: one number at a place of the word
-pub mod check; // check.rt: a whole word, accepted or refused
+pub mod whole; // whole.rt: the check of a whole word

@@ -17,67 +17,56 @@ Inv-loop word at value₀ weight₀ next₀ value weight next = Reading word at 
 abbrev μ-loop : tie.MeasureT-loop
 μ-loop word at value₀ weight₀ next₀ value weight next = length word - next
 
--- src/number.rt:30:5
 loop-holds : tie.Need-loop-holds Inv-loop μ-loop
 loop-holds c = reading-start _ _
 
--- src/number.rt:31:26
 shared-slice-read-wide : tie.Need-shared-slice-read-wide Inv-loop μ-loop
 shared-slice-read-wide c = search needs
 
--- src/number.rt:31:13
 wide-requires : tie.Need-wide-requires Inv-loop μ-loop
 wide-requires c κs = search needs
 
--- src/number.rt:32:9
 add-next : tie.Need-add-next Inv-loop μ-loop
 add-next c = search needs
 
--- src/number.rt:35:17
+-- not the shortest writing
 returns : tie.Need-returns Inv-loop μ-loop
 returns c = reading-zero _ _ _ _ _ (c .before .before .before .before .before .before .loop .inv) _ (c .before .before .before .wide .ensures .0) (c .before .before .before .before .before .loop-test .taken) (c .before .if2 .taken) (ltb-true _ _ (c .if3 .taken))
 
--- src/number.rt:37:22
 mul-value : tie.Need-mul-value Inv-loop μ-loop
 mul-value c = omega (arith, product (c .before .before .before .before .before .loop .inv) (c .before .before .wide .ensures .1))
 
--- src/number.rt:37:13
 add-value : tie.Need-add-value Inv-loop μ-loop
 add-value c = omega (arith, product (c .before .before .before .before .before .loop .inv) (c .before .before .wide .ensures .1))
 
--- src/number.rt:39:17
+-- the last group makes it too large
 returns-2 : tie.Need-returns-2 Inv-loop μ-loop
 returns-2 c = reading-above _ _ _ _ _ (c .before .before .before .before .before .before .loop .inv) _ (c .before .before .before .wide .ensures .0) (c .before .before .before .before .before .loop-test .taken) (c .before .before .if1 .taken) (⊎-elim (λ p. inl (ltb-false _ _ (p .1 .left))) (λ p. inr (p .left)) (c .before .if2 .came)) (c .if4 .taken)
 
--- src/number.rt:41:13
+-- the number and the place behind it
 returns-3 : tie.Need-returns-3 Inv-loop μ-loop
 returns-3 c = reading-last _ _ _ _ _ (c .before .before .before .before .before .before .loop .inv) _ (c .before .before .before .wide .ensures .0) (c .before .before .before .before .before .loop-test .taken) (c .before .before .if1 .taken) (⊎-elim (λ p. inl (ltb-false _ _ (p .1 .left))) (λ p. inr (p .left)) (c .before .if2 .came)) (c .if4 .left)
 
--- src/number.rt:43:18
 mul-value-2 : tie.Need-mul-value-2 Inv-loop μ-loop
 mul-value-2 c = omega (arith, product (c .before .before .before .before .loop .inv) {g = c .before .wide .result - 128} (omega arith))
 
--- src/number.rt:43:9
 add-value-2 : tie.Need-add-value-2 Inv-loop μ-loop
 add-value-2 c = omega (arith, product (c .before .before .before .before .loop .inv) {g = c .before .wide .result - 128} (omega arith))
 
--- src/number.rt:44:9
 mul-weight : tie.Need-mul-weight Inv-loop μ-loop
 mul-weight c = search needs
 
--- src/number.rt:47:13
+-- a further group would make it too large
 returns-4 : tie.Need-returns-4 Inv-loop μ-loop
 returns-4 c = reading-far _ _ _ _ _ (c .before .before .before .before .before .loop .inv) _ (c .before .before .wide .ensures .0) (c .before .before .before .before .loop-test .taken) (c .before .if1 .left) (c .if5 .taken)
 
--- src/number.rt:30:5
 loop-less : tie.Need-loop-less Inv-loop μ-loop
 loop-less c = search needs
 
--- src/number.rt:30:5
 loop-again : tie.Need-loop-again Inv-loop μ-loop
 loop-again c = reading-more _ _ _ _ _ (c .before .before .before .before .before .loop .inv) _ (c .before .before .wide .ensures .0) (c .before .before .before .before .loop-test .taken) (c .before .if1 .left) (c .before .before .wide .ensures .1) (c .if5 .left)
 
--- src/number.rt:24:1
+-- cut off
 returns-5 : tie.Need-returns-5 Inv-loop μ-loop
 returns-5 c = reading-cut _ _ _ _ _ (c .before .loop .inv) (c .loop-test .left)
 

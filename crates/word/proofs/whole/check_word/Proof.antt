@@ -4,12 +4,12 @@ use lib.ListN.{length}
 use borrow.Author.Needs.{needs}
 use Rattle.word.proofs.Groups.{number-at}
 use Rattle.word.proofs.Counting.{Checking, checking-long, checking-start, checking-broken, checking-stop, checking-next, checking-one, checking-other}
-use Rattle.word.proofs.check.check_word.Statement.{statement}
-use Rattle.word.proofs.check.check_word.Tie as tie
-use Rattle.word.proofs.check.check_word.Reads as reads
-use Rattle.word.proofs.check.check_word.Lts as lts
-use Rattle.word.proofs.check.count.Reads as count-reads
-use Rattle.word.proofs.check.take_sign.Reads as take-sign-reads
+use Rattle.word.proofs.whole.check_word.Statement.{statement}
+use Rattle.word.proofs.whole.check_word.Tie as tie
+use Rattle.word.proofs.whole.check_word.Reads as reads
+use Rattle.word.proofs.whole.check_word.Lts as lts
+use Rattle.word.proofs.whole.count.Reads as count-reads
+use Rattle.word.proofs.whole.take_sign.Reads as take-sign-reads
 use Rattle.word.proofs.number.read_number.Reads as read-number-reads
 
 abbrev Inv-loop : tie.InvT-loop
@@ -18,63 +18,53 @@ Inv-loop word counts₀ at₀ counts at = Checking word counts at
 abbrev μ-loop : tie.MeasureT-loop
 μ-loop word counts₀ at₀ counts at = length word - at
 
--- src/check.rt:86:9
+-- refusal 1
 returns : tie.Need-returns Inv-loop μ-loop
 returns c = checking-long _ (c .if1 .taken)
 
--- src/check.rt:91:9
 count-requires : tie.Need-count-requires Inv-loop μ-loop
 count-requires c κs = search needs
 
--- src/check.rt:93:5
 loop-holds : tie.Need-loop-holds Inv-loop μ-loop
 loop-holds c = rw (c .count .ensures) (checking-start _ (c .before .if1 .left))
 
--- src/check.rt:94:44
 read-number-requires : tie.Need-read-number-requires Inv-loop μ-loop
 read-number-requires c κs = search needs
 
--- src/check.rt:94:28
 enum-known-value : tie.Need-enum-known-value Inv-loop μ-loop
 enum-known-value c = search needs
 
--- src/check.rt:95:13
 enum-told : tie.Need-enum-told Inv-loop μ-loop
 enum-told c = search needs
 
--- src/check.rt:95:13
+-- refusal 2
 returns-2 : tie.Need-returns-2 Inv-loop μ-loop
 returns-2 c = checking-broken _ _ _ (c .before .before .before .before .loop .inv) (c .before .before .before .loop-test .taken) (c .before .before .read-number .ensures) (c .enum-told .given .1)
 
--- src/check.rt:100:15
 take-sign-requires : tie.Need-take-sign-requires Inv-loop μ-loop
 take-sign-requires c κs = search needs
 
--- src/check.rt:101:24
 enum-known-more : tie.Need-enum-known-more Inv-loop μ-loop
 enum-known-more c = search needs
 
--- src/check.rt:104:24
 enum-known-number : tie.Need-enum-known-number Inv-loop μ-loop
 enum-known-number c = search needs
 
--- src/check.rt:105:17
+-- refusals 3, 4 and 5
 returns-3 : tie.Need-returns-3 Inv-loop μ-loop
 returns-3 c = checking-stop _ _ _ (c .before .before .before .before .before .before .before .before .before .loop .inv) (c .before .before .before .before .before .before .before .before .loop-test .taken) (c .before .before .before .before .before .before .before .read-number .ensures) (c .before .before .before .before .before .value .given .1) (c .before .before .before .take-sign .ensures) (c .before .number .given .1)
 
--- src/check.rt:93:5
 loop-less : tie.Need-loop-less Inv-loop μ-loop
 loop-less c = omega (arith, number-at _ _ (c .before .before .before .before .before .before .before .read-number .ensures) (c .before .before .before .before .before .value .given .1) .moved, c .before .before .before .before .before .before .before .before .loop-test .taken)
 
--- src/check.rt:93:5
 loop-again : tie.Need-loop-again Inv-loop μ-loop
 loop-again c = checking-next _ _ _ (c .before .before .before .before .before .before .before .before .before .loop .inv) (c .before .before .before .before .before .before .before .before .loop-test .taken) (c .before .before .before .before .before .before .before .read-number .ensures) (c .before .before .before .before .before .value .given .1) (c .before .before .before .take-sign .ensures) (c .before .more .given .1)
 
--- src/check.rt:82:1
+-- accepted
 returns-4 : tie.Need-returns-4 Inv-loop μ-loop
 returns-4 c = checking-one _ _ _ (c .before .before .before .loop .inv) (c .before .before .loop-test .left) (c .if2 .taken)
 
--- src/check.rt:82:1
+-- refusal 6
 returns-5 : tie.Need-returns-5 Inv-loop μ-loop
 returns-5 c = checking-other _ _ _ (c .before .before .before .loop .inv) (c .before .before .loop-test .left) (c .if2 .left)
 
