@@ -1,7 +1,7 @@
 -- However long the word, at most 256 operands are pending and at most 255 steps are read: refusals 4 and 5 see to it.
 use mathlib.Core.Path.{_≡_, refl, sym, ap, _∙_}
 use mathlib.Core.Bool.{Bool, true, false, cond}
-use Prim.Native.Nat.{ℕ, _+_, _-_, _<_, _≤_}
+use Prim.Native.Nat.{ℕ, _≤_}
 use native.Mathlib.Omega.{arith}
 use lib.ListN.{length}
 use lib.Dec.{ltb}
@@ -13,6 +13,7 @@ use Rattle.word.specs.declared.sign.Kind.{Kind}
 use Rattle.word.specs.declared.sign.Kind.the-variants.{Operand, Step, Unary, Binary}
 use Rattle.word.specs.declared.whole.Counts.{Counts}
 use Rattle.word.proofs.Counting.{countBy, count-takes}
+use Rattle.word.proofs.Outcomes.{refused-answered}
 
 pub record Within (st : Pending) : Type 0 where
   pub pending : length (st .operands) ≤ 256
@@ -21,10 +22,10 @@ pub record Within (st : Pending) : Type 0 where
 module _ {A : Type 0} (n p : ℕ) {a : Outcome A} {x : A} where
   first-answered : (t : Bool) → cond t a (refused n p) ≡ answered x → (t ≡ true) × (a ≡ answered x)
   first-answered true q = (refl, q)
-  first-answered false q = absurd (let z : _≡_ {A = ℕ} 0 1 = cc in omega arith)
+  first-answered false q = absurd (refused-answered q)
 
   second-answered : (t : Bool) → cond t (refused n p) a ≡ answered x → (t ≡ false) × (a ≡ answered x)
-  second-answered true q = absurd (let z : _≡_ {A = ℕ} 0 1 = cc in omega arith)
+  second-answered true q = absurd (refused-answered q)
   second-answered false q = (refl, q)
 
 same-counts : {c d : Counts} → answered c ≡ answered d → c ≡ d

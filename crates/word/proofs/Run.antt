@@ -1,5 +1,5 @@
 -- What one more sign does to the reading of a word: `run` from place `at` on, with as many turns as bytes are left.
-use mathlib.Core.Path.{_≡_, refl, sym, ap, _∙_}
+use mathlib.Core.Path.{_≡_, refl, sym, _∙_}
 use mathlib.Core.Bool.{Bool, true, false}
 use mathlib.Core.List.{List, []}
 use Prim.Native.Nat.{ℕ, zero, suc, _+_, _-_, _<_, _≤_}
@@ -11,7 +11,7 @@ use borrow.Author.Tests.{lt-ltb, le-ltb, ltb-true, ltb-false}
 use Rattle.meaning.specs.Expression.{Expr}
 use Rattle.meaning.specs.Number.{Got, got, broken, readNumber}
 use Rattle.meaning.specs.Word.{Outcome, refused, answered, andThen, Pending, takes, atEnd, onNumber, run, readWord}
-use Rattle.word.proofs.Groups.{read-some}
+use Rattle.word.proofs.Numbers.{read-some}
 
 -- what the signs from place `at` on make of the pending operands
 abbrev pub runFrom : List ℕ → ℕ → Pending → Outcome Expr

@@ -1,4 +1,4 @@
--- What each case of this crate's answers stands for in the definitions of `meaning`.
+-- "When an answer is an enum, a definition tells you this paper's number and values for each of its cases": what each answer stands for in the definitions of `meaning`.
 use Prim.Native.Nat.{ℕ, _-_}
 use lib.ListN.{length}
 use Rattle.meaning.specs.Number.{Got, got, broken}
@@ -16,10 +16,11 @@ abbrev pub gotOf : ℕ → Read → Got
 gotOf at (Number value next) = got value (next - at)
 gotOf at Broken = broken
 
--- the pending operands and the steps, counting
+-- the pending operands and the steps, counted
 abbrev pub countsOf : Pending → Counts
 countsOf st = record { pending = length (st .operands); steps = st .steps }
 
+-- what a sign leaves pending, counted
 abbrev pub counting : Outcome Pending → Outcome Counts
 counting o = andThen o (λ st. answered (countsOf st))
 

@@ -1,4 +1,4 @@
--- What a sign does to the pending operands, as a case of Kind.
+-- What a sign does to the pending operands: the table of signs of `meaning`, sign by sign, as a case of Kind.
 use mathlib.Core.Bool.{Bool, true, false}
 use Prim.Native.Nat.{ℕ}
 use Rattle.meaning.specs.Word.{Sign, operand, unary, binary, signOf, isStep}

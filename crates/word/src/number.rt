@@ -14,6 +14,7 @@ pub enum Read {
 // A byte below GROUP is a last group; any other is GROUP more than its group, and another follows.
 const GROUP: u32 = 128;
 
+// A byte as a wider number.
 fn wide(byte: u8) -> u32
     ensures { λ r. ⌜ (r ≡ byte) × (r < 256) ⌝ }
 {

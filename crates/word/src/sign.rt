@@ -4,7 +4,7 @@ ghost use Rattle.word.specs.Sign.{kindOf};
 
 pub const EMPTY: u32 = 0;
 
-pub const IDENTITY: u32 = 1;
+pub const SELF: u32 = 1;
 
 pub const CHILD: u32 = 2;
 
@@ -27,7 +27,7 @@ pub const LARGEST_LABEL: u32 = 65535;
 
 pub const LARGEST_SIGN: u32 = FIRST_LABEL + LARGEST_LABEL;
 
-// An operand, an operand that is a step, an operator on one operand or on two.
+// What a sign does to the pending operands: an operand, an operand that is a step, an operator on one or on two.
 pub enum Kind {
     Operand,
     Step,
@@ -35,11 +35,12 @@ pub enum Kind {
     Binary,
 }
 
+// "Signs 4 and 7 take the two latest operands, the earlier as first; 5, 6 and 8 take one. Signs 2 and 3 are steps."
 pub fn kind_of(sign: u32) -> Kind
     ensures { λ r. ⌜ r ≡ kindOf sign ⌝ }
 {
     match sign {
-        EMPTY | IDENTITY => Kind::Operand,
+        EMPTY | SELF => Kind::Operand,
         CHILD | PARENT => Kind::Step,
         COMPOSITION | INTERSECTION => Kind::Binary,
         FIRST_PROJECTION | SECOND_PROJECTION | INVERSE => Kind::Unary,

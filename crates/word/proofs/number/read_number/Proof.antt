@@ -1,10 +1,11 @@
-use Prim.Native.Nat.{_-_}
+-- The loop reads group after group; `Reading` says what the groups so far and the bytes to come give together.
 use mathlib.Core.Logic.{⊎-elim, inl, inr}
+use Prim.Native.Nat.{_-_}
 use native.Mathlib.Omega.{arith}
 use lib.ListN.{length}
 use borrow.Author.Needs.{needs}
 use borrow.Author.Tests.{ltb-true, ltb-false}
-use Rattle.word.proofs.Groups.{Reading, product, reading-start, reading-cut, reading-zero, reading-last, reading-above, reading-far, reading-more}
+use Rattle.word.proofs.Reading.{Reading, product, reading-start, reading-cut, reading-zero, reading-last, reading-above, reading-far, reading-more}
 use Rattle.word.proofs.number.read_number.Statement.{statement}
 use Rattle.word.proofs.number.read_number.Tie as tie
 use Rattle.word.proofs.number.read_number.Reads as reads
@@ -48,10 +49,10 @@ returns-3 : tie.Need-returns-3 Inv-loop μ-loop
 returns-3 c = reading-last _ _ _ _ _ (c .before .before .before .before .before .before .loop .inv) _ (c .before .before .before .wide .ensures .0) (c .before .before .before .before .before .loop-test .taken) (c .before .before .if1 .taken) (⊎-elim (λ p. inl (ltb-false _ _ (p .1 .left))) (λ p. inr (p .left)) (c .before .if2 .came)) (c .if4 .left)
 
 mul-value-2 : tie.Need-mul-value-2 Inv-loop μ-loop
-mul-value-2 c = omega (arith, product (c .before .before .before .before .loop .inv) {g = c .before .wide .result - 128} (omega arith))
+mul-value-2 c = omega (arith, product (c .before .before .before .before .loop .inv) {b = c .before .wide .result - 128} (omega arith))
 
 add-value-2 : tie.Need-add-value-2 Inv-loop μ-loop
-add-value-2 c = omega (arith, product (c .before .before .before .before .loop .inv) {g = c .before .wide .result - 128} (omega arith))
+add-value-2 c = omega (arith, product (c .before .before .before .before .loop .inv) {b = c .before .wide .result - 128} (omega arith))
 
 mul-weight : tie.Need-mul-weight Inv-loop μ-loop
 mul-weight c = search needs

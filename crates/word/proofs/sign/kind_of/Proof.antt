@@ -1,5 +1,6 @@
-use native.Mathlib.Omega.{arith}
+-- The nine signs by their numbers, and the labels behind them.
 use mathlib.Core.Path.{refl}
+use native.Mathlib.Omega.{arith}
 use Rattle.meaning.specs.Word.{signOf, isStep}
 use Rattle.word.specs.Sign.{kindOf}
 use Rattle.word.proofs.Signs.{one-of-two, none-of-two, kind-of-two, kind-label}

@@ -1,9 +1,10 @@
+-- The loop goes from sign to sign; `Checking` says which pending operands of the definition the counts stand for.
 use Prim.Native.Nat.{_-_}
 use native.Mathlib.Omega.{arith}
 use lib.ListN.{length}
 use borrow.Author.Needs.{needs}
-use Rattle.word.proofs.Groups.{number-at}
-use Rattle.word.proofs.Counting.{Checking, checking-long, checking-start, checking-broken, checking-stop, checking-next, checking-one, checking-other}
+use Rattle.word.proofs.Numbers.{number-at}
+use Rattle.word.proofs.Checking.{Checking, checking-long, checking-start, checking-broken, checking-stop, checking-next, checking-one, checking-other}
 use Rattle.word.proofs.whole.check_word.Statement.{statement}
 use Rattle.word.proofs.whole.check_word.Tie as tie
 use Rattle.word.proofs.whole.check_word.Reads as reads

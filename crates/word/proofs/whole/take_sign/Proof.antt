@@ -1,7 +1,8 @@
+-- One answer for each way that a sign can go: `Counting` has the law of each.
 use mathlib.Core.Path.{sym, _∙_}
 use native.Mathlib.Omega.{arith}
-use Rattle.word.proofs.Counting.{operand-refused, operand-taken, step-refused, step-256th, step-taken, unary-refused, unary-taken, binary-refused, binary-taken}
 use borrow.Author.Needs.{needs}
+use Rattle.word.proofs.Counting.{operand-refused, operand-taken, step-refused, step-256th, step-taken, unary-refused, unary-taken, binary-refused, binary-taken}
 use Rattle.word.proofs.whole.take_sign.Statement.{statement}
 use Rattle.word.proofs.whole.take_sign.Tie as tie
 use Rattle.word.proofs.whole.take_sign.Reads as reads
