@@ -1,7 +1,7 @@
 -- Gluing between two trees, and inside one, gives one tree. `Safe` says what the gluing of x and y in a table with a border b keeps: the rows
 -- below b stay where they are. Between two trees the border is the length of the first; inside one tree it is 0.
 use mathlib.Core.Path.{_≡_, refl, sym, ap, subst, _∙_}
-use mathlib.Core.Logic.{_≢_, _⊎_, inl, inr, ⊎-swap}
+use mathlib.Core.Logic.{_≢_, _⊎_, inl, inr, ⊎-swap, by-cases}
 use mathlib.Core.Option.{Option, none, some}
 use Prim.Native.Nat.{ℕ, zero, suc, _+_, _-_, _≤_, _<_}
 use native.Mathlib.Decide.{ℕ-discrete, decLt}
@@ -12,10 +12,11 @@ use Rattle.meaning.specs.Document.{Doc}
 use Rattle.meaning.specs.TreeQuery.{Lab, lab, Row, node, Table, at, Live, Root, Linked, Tree, Laying}
 use Rattle.meaning.specs.Gluing.{meet, moved, merged, relink, Glued, glue, shift, join, across, depth, within}
 use Rattle.theory.proofs.Look.{never, look-lt, live-lt}
-use Rattle.theory.proofs.Gluing.{back, back-low, back-high, moved-low, moved-high, Merge, merge-still, RowOf, glued, old, rowOf, live-merged, linked-merged, Clash, Quotient, Result, Closed, linked-closed, glue-right, clash-none, live-glued, edge-glued, root-glued, level-glued, linked-glued, laying-up, laying-down, still-glued}
-use Rattle.theory.proofs.Depth.{root-level, top-root, depth-level, level-laid}
-use Rattle.theory.proofs.Join.{at-left, at-right, live-left, live-right, fork, fork-left, fork-right, length-join, laying-left, laying-right, laying-fork}
-use Rattle.theory.proofs.Join as Join
+use Rattle.theory.proofs.Levels.{top-root}
+use Rattle.theory.proofs.Merge.{back, back-low, back-high, moved-low, moved-high, Merge, merge-still, MergedRow, glued, old, mergedRow, live-merged, linked-merged}
+use Rattle.theory.proofs.Gluing.{Quotient, Result, linked-closed, glue-right, clash-none, live-glued, edge-glued, root-glued, level-glued, linked-glued, laying-up, laying-down, still-glued}
+use Rattle.theory.proofs.Depth.{depth-level, level-laid}
+use Rattle.theory.proofs.Join.{length-join, at-left, at-right, live-left, live-right, JoinRow, inFirst, inSecond, joinRow, fork, fork-left, fork-right, laying-left, laying-right, laying-fork}
 
 -- the rows below b link to rows below b; from the level of x and y upwards the links of the others stay among the others
 pub record Safe (b : ℕ) (T : Table) (x y : ℕ) : Type 0 where
@@ -30,18 +31,10 @@ pub record Safe (b : ℕ) (T : Table) (x y : ℕ) : Type 0 where
   pub right : b ≤ y
 
 moved-up : (x y b i : ℕ) → b ≤ y → b ≤ i → i ≢ y → b ≤ moved x y i
-moved-up x y b i by bi ne = go (decLt i y)
-  where
-    go : Dec (i < y) → b ≤ moved x y i
-    go (yes lt) = let e = moved-low x y i lt in omega arith
-    go (no ge) = let e = moved-high x y i (omega arith) in omega arith
+moved-up x y b i by bi ne = by-cases (decLt i y) (λ lt. let e = moved-low x y i lt in omega arith) (λ ge. let e = moved-high x y i (omega arith) in omega arith)
 
 back-up : (y b i : ℕ) → b ≤ i → b ≤ back y i
-back-up y b i bi = go (decLt i y)
-  where
-    go : Dec (i < y) → b ≤ back y i
-    go (yes lt) = let e = back-low y i lt in omega arith
-    go (no ge) = let e = back-high y i (omega arith) in omega arith
+back-up y b i bi = by-cases (decLt i y) (λ lt. let e = back-low y i lt in omega arith) (λ ge. let e = back-high y i (omega arith) in omega arith)
 
 -- one level up
 pub safe-next : {T : Table} {x y p q : ℕ} {l k : Lab} (b : ℕ) (m : Lab) → Merge T x y (some p) (some q) l k → meet l k ≡ some m → Safe b T x y
@@ -52,8 +45,8 @@ safe-next {T} {x} {y} {p} {q} {l} {k} b m w em s = record {
   liveX = live-merged w m em p (upX .0);
   liveY = live-merged w m em q (upY .0);
   same = still p ∙ pq ∙ sym (still q);
-  first = λ i j n e lt. first i j n lt (rowOf w m i (some j) n e);
-  second = λ i j n e le ge. second i j n le ge (rowOf w m i (some j) n e);
+  first = λ i j n e lt. first i j n lt (mergedRow w m i (some j) n e);
+  second = λ i j n e le ge. second i j n le ge (mergedRow w m i (some j) n e);
   left = λ pos. let e = moved-low x y p (omega (arith, s .first x p l (w .rowX) (s .left pos), s .right)) in omega (arith, s .first x p l (w .rowX) (s .left pos));
   right = moved-up x y b q (s .right) (s .second y q k (w .rowY) (omega (arith, s .same)) (s .right)) (above q (omega (arith, pq)));
 }
@@ -79,13 +72,13 @@ safe-next {T} {x} {y} {p} {q} {l} {k} b m w em s = record {
     stays : (j j′ : ℕ) → j < b → j′ ≡ moved x y j → j′ < b
     stays j j′ lt e = let z = moved-low x y j (omega (arith, s .right)) in omega arith
 
-    first : (i j : ℕ) (n : Lab) → i < b → RowOf w m i (some j) n → j < b
+    first : (i j : ℕ) (n : Lab) → i < b → MergedRow w m i (some j) n → j < b
     first i j n lt (glued ei el _) = stays p j (s .first x p l (w .rowX) (s .left (omega arith))) (let z : j ≡ moved x y p = cc in z)
     first i j n lt (old none e el) = never cc
     first i j n lt (old (some j₀) e el) =
         let z = back-low y i (omega (arith, s .right)) in stays j₀ j (s .first (back y i) j₀ n e (omega arith)) (let z : j ≡ moved x y j₀ = cc in z)
 
-    second : (i j : ℕ) (n : Lab) → lev (back y i) ≤ lev (back y (moved x y p)) → b ≤ i → RowOf w m i (some j) n → b ≤ j
+    second : (i j : ℕ) (n : Lab) → lev (back y i) ≤ lev (back y (moved x y p)) → b ≤ i → MergedRow w m i (some j) n → b ≤ j
     second i j n le ge (glued ei el _) = let z = ap (λ z. lev (back y z)) ei in absurd (omega (arith, still x, still p, upX .1))
     second i j n le ge (old none e el) = never cc
     second i j n le ge (old (some j₀) e el) =
@@ -136,14 +129,14 @@ module _ {A B : Table} (ta : Tree A) (tb : Tree B) (a b : ℕ) (liveA : Live A a
   level-same = omega (arith, level-left a (live-lt A a liveA), level-right b)
 
   linked-join : Linked T lev
-  linked-join i p l e = go (Join.rowOf A B i (some p) l e)
+  linked-join i p l e = go (joinRow A B i (some p) l e)
     where
-      go : Join.RowOf A B i (some p) l → Live T p × (lev i ≡ suc (lev p))
-      go (Join.first lt e′) =
+      go : JoinRow A B i (some p) l → Live T p × (lev i ≡ suc (lev p))
+      go (inFirst lt e′) =
           let o = ta .linked i p l e′ in
           (live-left A B p (o .0), omega (arith, o .1, level-left i lt, level-left p (live-lt A p (o .0))))
-      go (Join.second j none ei ep e′) = never cc
-      go (Join.second j (some q) ei ep e′) =
+      go (inSecond j none ei ep e′) = never cc
+      go (inSecond j (some q) ei ep e′) =
           let o = tb .linked j q l e′ in
           let ep′ : p ≡ length A + q = cc in
           (rw ep′ (live-right A B q (o .0)), rw (ei, ep′) (omega (arith, o .1, level-right j, level-right q)))
@@ -155,20 +148,20 @@ module _ {A B : Table} (ta : Tree A) (tb : Tree B) (a b : ℕ) (liveA : Live A a
     liveX = live-left A B a liveA;
     liveY = live-right A B b liveB;
     same = level-same;
-    first = λ i p l e lt. first i p l lt (Join.rowOf A B i (some p) l e);
-    second = λ i p l e le ge. second i p l ge (Join.rowOf A B i (some p) l e);
+    first = λ i p l e lt. first i p l lt (joinRow A B i (some p) l e);
+    second = λ i p l e le ge. second i p l ge (joinRow A B i (some p) l e);
     left = λ _. live-lt A a liveA;
     right = omega arith;
   }
     where
-      first : (i p : ℕ) (l : Lab) → i < length A → Join.RowOf A B i (some p) l → p < length A
-      first i p l lt (Join.first _ e) = live-lt A p ((ta .linked i p l e) .0)
-      first i p l lt (Join.second j v ei ep e) = absurd (omega arith)
+      first : (i p : ℕ) (l : Lab) → i < length A → JoinRow A B i (some p) l → p < length A
+      first i p l lt (inFirst _ e) = live-lt A p ((ta .linked i p l e) .0)
+      first i p l lt (inSecond j v ei ep e) = absurd (omega arith)
 
-      second : (i p : ℕ) (l : Lab) → length A ≤ i → Join.RowOf A B i (some p) l → length A ≤ p
-      second i p l ge (Join.first lt e) = absurd (omega arith)
-      second i p l ge (Join.second j none ei ep e) = never cc
-      second i p l ge (Join.second j (some q) ei ep e) = let ep′ : p ≡ length A + q = cc in omega arith
+      second : (i p : ℕ) (l : Lab) → length A ≤ i → JoinRow A B i (some p) l → length A ≤ p
+      second i p l ge (inFirst lt e) = absurd (omega arith)
+      second i p l ge (inSecond j none ei ep e) = never cc
+      second i p l ge (inSecond j (some q) ei ep e) = let ep′ : p ≡ length A + q = cc in omega arith
 
   module _ (g : Glued) (r : Quotient T a (length A + b) g) where
     abbrev now : ℕ → ℕ
@@ -199,13 +192,13 @@ module _ {A B : Table} (ta : Tree A) (tb : Tree B) (a b : ℕ) (liveA : Live A a
         went : {j : ℕ} → r .from i ≡ j → i ≡ g .to j
         went e = sym (r .onto i) ∙ ap (g .to) e
 
-        side : {l : Lab} → Join.RowOf A B (r .from i) none l → (i ≡ topA) ⊎ (i ≡ topB)
-        side {l} (Join.first lt e) = inl (went (ta .single (r .from i) (l, e)))
-        side (Join.second j (some q) ei ep e) = never cc
-        side {l} (Join.second j none ei ep e) = inr (went (ei ∙ ap (λ z. length A + z) (tb .single j (l, e))))
+        side : {l : Lab} → JoinRow A B (r .from i) none l → (i ≡ topA) ⊎ (i ≡ topB)
+        side {l} (inFirst lt e) = inl (went (ta .single (r .from i) (l, e)))
+        side (inSecond j (some q) ei ep e) = never cc
+        side {l} (inSecond j none ei ep e) = inr (went (ei ∙ ap (λ z. length A + z) (tb .single j (l, e))))
 
         go : Root T (r .from i) → (i ≡ topA) ⊎ (i ≡ topB)
-        go (l, e) = side (Join.rowOf A B (r .from i) none l e)
+        go (l, e) = side (joinRow A B (r .from i) none l e)
 
     abbrev OneTop : Type 0
     OneTop = (t : ℕ) × (now t ≡ 0) × ((i : ℕ) → Root (g .rows) i → i ≡ t)
@@ -261,9 +254,9 @@ module _ {A B : Table} (ta : Tree A) (tb : Tree B) (a b : ℕ) (liveA : Live A a
       meets : (f f′ : ℕ → ℕ) → f a ≡ f′ b → fork A f f′ a ≡ fork A f f′ (length A + b)
       meets f f′ e = fork-left A f f′ a (live-lt A a liveA) ∙ e ∙ sym (fork-right A f f′ b)
 
-      row : (c i : ℕ) (u : Option ℕ) → Join.RowOf A B i u (lab c) → Bears A c ⊎ Bears B c
-      row c i u (Join.first lt e) = inl (i, u, e)
-      row c i u (Join.second j v ei eu e) = inr (j, v, e)
+      row : (c i : ℕ) (u : Option ℕ) → JoinRow A B i u (lab c) → Bears A c ⊎ Bears B c
+      row c i u (inFirst lt e) = inl (i, u, e)
+      row c i u (inSecond j v ei eu e) = inr (j, v, e)
 
       go : (o : Option Glued) → Result T a (length A + b) o → AcrossO A B a b o
       go none c = λ D f f′ lay lay′ e. clash-none D T a (length A + b) c (fork A f f′) (both D f f′ lay lay′) (meets f f′ e)
@@ -278,7 +271,7 @@ module _ {A B : Table} (ta : Tree A) (tb : Tree B) (a b : ℕ) (liveA : Live A a
             let still = still-glued r D (fork A f f′) w (meets f f′ e) in
             ((λ i. fork A f f′ (r .from i)), laying-down r D (fork A f f′) w (meets f f′ e), λ i li. still i ∙ fork-left A f f′ i (live-lt A i li), λ j. still (length A + j) ∙ fork-right A f f′ j);
         short = let z = r .less (λ e. omega (arith, live-lt A a liveA)) in omega (arith, length-join A B);
-        labels = λ c x. let (i, u, e) = bears-glued r c x in row c i u (Join.rowOf A B i u (lab c) e);
+        labels = λ c x. let (i, u, e) = bears-glued r c x in row c i u (joinRow A B i u (lab c) e);
       }
 
 -- ------------------------------------------------------------------ inside one tree

@@ -8,12 +8,21 @@ use Prim.Native.Nat.{ℕ, zero, suc, _+_, _<_}
 use native.Mathlib.Nat.{zero-add, suc-add}
 use native.Mathlib.Omega.{arith}
 use lib.ListN.{length, set}
-use Rattle.meaning.specs.Basics.{look, mapped}
+use Rattle.meaning.specs.Basics.{pick, look, mapped}
 use Rattle.meaning.specs.TreeQuery.{Lab, Row, node, Table, at, Live}
 
 -- two unequal constructors are never equal: `never cc`, from the equations at hand
 pub never {ℓ} : {A : Type ℓ} → _≡_ {A = ℕ} 0 1 → A
 never e = absurd (omega arith)
+
+-- a decision that is known chooses
+pub pick-yes {κ} : {P : Type 0} {A : Type κ} (d : Dec P) (a b : A) → P → pick d a b ≡ a
+pick-yes (yes _) a b p = refl
+pick-yes (no np) a b p = absurd (np p)
+
+pub pick-no {κ} : {P : Type 0} {A : Type κ} (d : Dec P) (a b : A) → ¬ P → pick d a b ≡ b
+pick-no (yes p) a b np = absurd (np p)
+pick-no (no _) a b np = refl
 
 module _ {A : Type 0} where
   pub look-lt : (xs : List A) (i : ℕ) {a : A} → look xs i ≡ some a → i < length xs
