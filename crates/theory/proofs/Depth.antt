@@ -6,10 +6,10 @@ use Prim.Native.Nat.{ℕ, zero, suc, _≤_, _<_}
 use native.Mathlib.Omega.{arith}
 use lib.ListN.{length}
 use Rattle.meaning.specs.Document.{Doc, Child}
-use Rattle.meaning.specs.TreeQuery.{Lab, Row, node, Table, at, Live, Root, Tree, RowKept, Laying}
+use Rattle.meaning.specs.TreeQuery.{Lab, Row, node, Table, at, Live, Root, Tree, Laying}
 use Rattle.meaning.specs.Gluing.{depth}
 use Rattle.theory.proofs.Levels.{root-level, level-bound}
-use Rattle.theory.proofs.Gluing.{laying-congruent}
+use Rattle.theory.proofs.Gluing.{laid, laying-congruent}
 
 module _ {T : Table} (tr : Tree T) where
   abbrev lev : ℕ → ℕ
@@ -27,7 +27,7 @@ module _ {T : Table} (tr : Tree T) where
 
   module _ (D : Doc) (h : ℕ → ℕ) (lay : Laying D T h) where
     edge-lower : (i p : ℕ) (l : Lab) → at T i ≡ some (node (some p) l) → h p < h i
-    edge-lower i p l e = let a : RowKept D h i (some (node (some p) l)) = subst (RowKept D h i) e (lay i) in a .2 .lower
+    edge-lower i p l e = (laid D T h lay i e) .2 .lower
 
     top-lowest : (n i : ℕ) → Live T i → lev i < n → h (tr .top) ≤ h i
     top-lowest zero i li lt = absurd (omega arith)

@@ -62,10 +62,10 @@ quotient-self T x y e = record {
 module _ {T : Table} {x y : ℕ} {u v : Option ℕ} {l k : Lab} (w : Merge T x y u v l k) (m : Lab) (em : meet l k ≡ some m)
     (p q : ℕ) (agree : (t : ℕ → ℕ) → t p ≡ t q → (p₀ q₀ : ℕ) → u ≡ some p₀ → v ≡ some q₀ → t (moved x y p₀) ≡ t (moved x y q₀))
     (close : (h : ℕ → ℕ) → Congruent T h → h x ≡ h y → h (back y p) ≡ h (back y q)) where
-  abbrev M₁ : Table
-  M₁ = merged T x y (orElse u v) m
+  abbrev M : Table
+  M = merged T x y (orElse u v) m
 
-  through : (o : Option Glued) → Result M₁ p q o → Result T x y (after (moved x y) o)
+  through : (o : Option Glued) → Result M p q o → Result T x y (after (moved x y) o)
   through none c = record {
     i = la .place;
     j = lb .place;
@@ -96,18 +96,20 @@ module _ {T : Table} {x y : ℕ} {u v : Option ℕ} {l k : Lab} (w : Merge T x y
     edges = λ i j n e. edge (r .edges i j n e);
     labels = λ i s c e. label (r .labels i s c e);
     least = λ h con e j. r .least (λ z. h (back y z)) (congruent-merged w m h e con) (close h con e) (moved x y j) ∙ merge-still w m h e j;
-    fewer = let a = length-merged T x y (orElse u v) m (look-lt T y (w .rowY)) in let b = r .fewer in omega arith;
-    less = λ ne. let a = length-merged T x y (orElse u v) m (look-lt T y (w .rowY)) in let b = r .fewer in omega arith;
+    fewer = omega (arith, small);
+    less = λ ne. small;
   }
     where
       to₁ : ℕ → ℕ
       to₁ i = g .to (moved x y i)
 
-      keep : (j : ℕ) (s : Option ℕ) (n : Lab) → Kept (g .to) to₁ M₁ (moved x y j) s n → Kept (λ z. z) to₁ (g .rows) (to₁ j) s n
-      keep j s n a = next (r .kept (moved x y j) (a .up) (a .bears) (a .row))
-        where
-          next : Kept (λ z. z) (g .to) (g .rows) (to₁ j) (a .up) (a .bears) → Kept (λ z. z) to₁ (g .rows) (to₁ j) s n
-          next b = record {
+      small : suc (length (g .rows)) ≤ length T
+      small = omega (arith, length-merged T x y (orElse u v) m (look-lt T y (w .rowY)), r .fewer)
+
+      keep : (j : ℕ) (s : Option ℕ) (n : Lab) → Kept (g .to) to₁ M (moved x y j) s n → Kept (λ z. z) to₁ (g .rows) (to₁ j) s n
+      keep j s n a =
+          let b = r .kept (moved x y j) (a .up) (a .bears) (a .row) in
+          record {
             up = b .up;
             bears = b .bears;
             row = b .row;
@@ -115,17 +117,15 @@ module _ {T : Table} {x y : ℕ} {u v : Option ℕ} {l k : Lab} (w : Merge T x y
             edge = λ i e. let (i₁, e₁, t₁) = a .edge i e in let (i₂, e₂, t₂) = b .edge i₁ e₁ in (i₂, e₂, t₂ ∙ t₁);
           }
 
-      edge : {i j : ℕ} → EdgeOf M₁ (g .to) i j → EdgeOf T to₁ i j
-      edge {i} {j} a = next (edge-merged w m (a .low) (a .high) (a .bears) (a .row))
-        where
-          next : EdgeOf T (moved x y) (a .low) (a .high) → EdgeOf T to₁ i j
-          next b = record { low = b .low; high = b .high; bears = b .bears; row = b .row; toLow = ap (g .to) (b .toLow) ∙ a .toLow; toHigh = ap (g .to) (b .toHigh) ∙ a .toHigh }
+      edge : {i j : ℕ} → EdgeOf M (g .to) i j → EdgeOf T to₁ i j
+      edge a =
+          let b = edge-merged w m (a .low) (a .high) (a .bears) (a .row) in
+          record { low = b .low; high = b .high; bears = b .bears; row = b .row; toLow = ap (g .to) (b .toLow) ∙ a .toLow; toHigh = ap (g .to) (b .toHigh) ∙ a .toHigh }
 
-      label : {i c : ℕ} → LabelOf M₁ (g .to) i c → LabelOf T to₁ i c
-      label {i} {c} a = next (label-merged w m em (a .place) (a .up) c (a .row))
-        where
-          next : LabelOf T (moved x y) (a .place) c → LabelOf T to₁ i c
-          next b = record { place = b .place; up = b .up; row = b .row; toPlace = ap (g .to) (b .toPlace) ∙ a .toPlace }
+      label : {i c : ℕ} → LabelOf M (g .to) i c → LabelOf T to₁ i c
+      label {i} {c} a =
+          let b = label-merged w m em (a .place) (a .up) c (a .row) in
+          record { place = b .place; up = b .up; row = b .row; toPlace = ap (g .to) (b .toPlace) ∙ a .toPlace }
 
 -- each parent is a row
 abbrev pub Closed : Table → Type 0
@@ -143,15 +143,15 @@ links-right : (n : ℕ) → Right n → {T : Table} {x y : ℕ} (u v : Option �
 links-right n rec {T} {x} {y} (some p) (some q) {l} {k} m w em cl le = through w m em (moved x y p) (moved x y q)
     (λ t e p₀ q₀ ep eq. let a : p ≡ p₀ = cc in let b : q ≡ q₀ = cc in ap (λ z. t (moved x y z)) (sym a) ∙ e ∙ ap (λ z. t (moved x y z)) b)
     (λ h con e. merge-still w m h e p ∙ con x y p q l k (w .rowX) (w .rowY) e ∙ sym (merge-still w m h e q))
-    (glue n M (moved x y p) (moved x y q))
-    (rec M (moved x y p) (moved x y q) (λ i j c e. closed (edge-merged w m i j c e)) (live-merged w m em p (cl x p l (w .rowX))) (live-merged w m em q (cl y q k (w .rowY)))
-    (let z = length-merged T x y (some p) m (look-lt T y (w .rowY)) in omega arith))
+    (glue n N (moved x y p) (moved x y q))
+    (rec N (moved x y p) (moved x y q) closed (live-merged w m em p (cl x p l (w .rowX))) (live-merged w m em q (cl y q k (w .rowY)))
+    (omega (arith, length-merged T x y (some p) m (look-lt T y (w .rowY)))))
   where
-    M : Table
-    M = merged T x y (some p) m
+    N : Table
+    N = merged T x y (some p) m
 
-    closed : {i j : ℕ} → EdgeOf T (moved x y) i j → Live M j
-    closed a = subst (Live M) (a .toHigh) (live-merged w m em (a .high) (cl (a .low) (a .high) (a .bears) (a .row)))
+    closed : Closed N
+    closed i j n e = let a = edge-merged w m i j n e in subst (Live N) (a .toHigh) (live-merged w m em (a .high) (cl (a .low) (a .high) (a .bears) (a .row)))
 links-right n rec {T} {x} {y} (some p) none m w em cl le =
     through w m em 0 0 (λ t e p₀ q₀ ep eq. never cc) (λ h con e. refl) (some (record { rows = merged T x y (some p) m; to = λ i. i })) (quotient-self (merged T x y (some p) m) 0 0 refl)
 links-right n rec {T} {x} {y} none v m w em cl le =
@@ -171,18 +171,17 @@ glue-right (suc n) T x y cl (u, l, ex) (v, k, ey) le = step (glue-right n) (ℕ-
     step rec (no ne) = rw (ex, ey) (labels rec ne (meet l k) refl)
 
 -- ------------------------------------------------------------------ what follows for the glued table
+pub laid : (D : Doc) (T : Table) (h : ℕ → ℕ) → Laying D T h → (i : ℕ) {u : Option ℕ} {l : Lab} → at T i ≡ some (node u l) → RowKept D h i (some (node u l))
+laid D T h lay i e = subst (RowKept D h i) e (lay i)
+
 -- parents of one node are one node
 pub laying-congruent : (D : Doc) (T : Table) (h : ℕ → ℕ) → Laying D T h → Congruent T h
 laying-congruent D T h lay i j p q l k ei ej e =
-    let a : RowKept D h i (some (node (some p) l)) = subst (RowKept D h i) ei (lay i) in
-    let b : RowKept D h j (some (node (some q) k)) = subst (RowKept D h j) ej (lay j) in
-    sym (a .2 .above) ∙ ap (λ z. docRow D z .parent) e ∙ b .2 .above
+    sym ((laid D T h lay i ei) .2 .above) ∙ ap (λ z. docRow D z .parent) e ∙ (laid D T h lay j ej) .2 .above
 
 pub clash-none : (D : Doc) (T : Table) (x y : ℕ) → Clash T x y → (h : ℕ → ℕ) → Laying D T h → h x ≡ h y → ⊥
 clash-none D T x y c h lay e =
-    let a : RowKept D h (c .i) (some (node (c .u) (lab (c .a)))) = subst (RowKept D h (c .i)) (c .rowI) (lay (c .i)) in
-    let b : RowKept D h (c .j) (some (node (c .v) (lab (c .b)))) = subst (RowKept D h (c .j)) (c .rowJ) (lay (c .j)) in
-    c .apart (a .1 ∙ ap (labelOf D) (c .forced h (laying-congruent D T h lay) e) ∙ sym (b .1))
+    c .apart ((laid D T h lay (c .i) (c .rowI)) .1 ∙ ap (labelOf D) (c .forced h (laying-congruent D T h lay) e) ∙ sym ((laid D T h lay (c .j) (c .rowJ)) .1))
 
 module _ {T : Table} {x y : ℕ} {g : Glued} (r : Quotient T x y g) where
   pub live-glued : (j : ℕ) → Live T j → Live (g .rows) (g .to j)
@@ -209,14 +208,13 @@ module _ {T : Table} {x y : ℕ} {g : Glued} (r : Quotient T x y g) where
       edge : (u : Option ℕ) {l : Lab} (a : Kept (λ p. p) (g .to) (g .rows) (g .to j) u l) → EdgeKept D h (g .to j) (a .up) → EdgeKept D (λ z. h (g .to z)) j u
       edge none a e = tt
       edge (some p) a e =
-          let (q, eq, et) = a .edge p refl in
-          subst (EdgeKept D h (g .to j)) (eq ∙ ap some et) e
+          let (q, eq, et) = a .edge p refl in subst (EdgeKept D h (g .to j)) (eq ∙ ap some et) e
 
       go : (o : Option Row) → at T j ≡ o → RowKept D (λ z. h (g .to z)) j o
       go none e = tt
       go (some (node u l)) e =
           let a = r .kept j u l e in
-          let b : RowKept D h (g .to j) (some (node (a .up) (a .bears))) = subst (RowKept D h (g .to j)) (a .row) (lay (g .to j)) in
+          let b = laid D (g .rows) h lay (g .to j) (a .row) in
           (b .0, a .fits (labelOf D (h (g .to j))) (b .1), edge u a (b .2))
 
   module _ (D : Doc) (h : ℕ → ℕ) (lay : Laying D T h) (e : h x ≡ h y) where
@@ -233,22 +231,19 @@ module _ {T : Table} {x y : ℕ} {g : Glued} (r : Quotient T x y g) where
         fits any ei = tt
         fits (lab c) {u} ei =
             let a = r .labels i u c ei in
-            let b : RowKept D h (a .place) (some (node (a .up) (lab c))) = subst (RowKept D h (a .place)) (a .row) (lay (a .place)) in
-            rw (now (a .toPlace)) at (b .1)
+            rw (now (a .toPlace)) at ((laid D T h lay (a .place) (a .row)) .1)
 
         edge : (u : Option ℕ) {l : Lab} → at (g .rows) i ≡ some (node u l) → EdgeKept D (λ z. h (r .from z)) i u
         edge none ei = tt
         edge (some p) {l} ei =
             let a = r .edges i p l ei in
-            let b : RowKept D h (a .low) (some (node (some (a .high)) (a .bears))) = subst (RowKept D h (a .low)) (a .row) (lay (a .low)) in
-            rw (now (a .toLow), now (a .toHigh)) at (b .2)
+            rw (now (a .toLow), now (a .toHigh)) at ((laid D T h lay (a .low) (a .row)) .2)
 
         go : (o : Option Row) → at (g .rows) i ≡ o → RowKept D (λ z. h (r .from z)) i o
         go none ei = tt
         go (some (node u l)) ei =
             let (u₀, l₀, e₀) = r .old i (u, l, ei) in
-            let b : RowKept D h (r .from i) (some (node u₀ l₀)) = subst (RowKept D h (r .from i)) e₀ (lay (r .from i)) in
-            (b .0, fits l ei, edge u ei)
+            ((laid D T h lay (r .from i) e₀) .0, fits l ei, edge u ei)
 
   -- levels
   module _ (lev : ℕ → ℕ) (ok : Linked T lev) (e : lev x ≡ lev y) where

@@ -142,11 +142,9 @@ seen t b h still {i} {j} e = sym (still j) ∙ ap (λ z. h (b z)) e
 pub linked-along : (T G : Table) (t b lev : ℕ → ℕ) → Linked T lev → ((j : ℕ) → lev (b (t j)) ≡ lev j) → ((j : ℕ) → Live T j → Live G (t j))
     → ((i p : ℕ) (n : Lab) → at G i ≡ some (node (some p) n) → EdgeOf T t i p) → Linked G (λ i. lev (b i))
 linked-along T G t b lev ok still live edges i p n e =
+    let a = edges i p n e in
     let (lq, eq) = ok (a .low) (a .high) (a .bears) (a .row) in
     (subst (Live G) (a .toHigh) (live (a .high) lq), sym (seen t b lev still (a .toLow)) ∙ eq ∙ ap suc (seen t b lev still (a .toHigh)))
-  where
-    a : EdgeOf T t i p
-    a = edges i p n e
 
 module _ {T : Table} {x y : ℕ} {u v : Option ℕ} {l k : Lab} (w : Merge T x y u v l k) (m : Lab) where
   abbrev f : ℕ → ℕ
@@ -155,30 +153,21 @@ module _ {T : Table} {x y : ℕ} {u v : Option ℕ} {l k : Lab} (w : Merge T x y
   abbrev M : Table
   M = merged T x y (orElse u v) m
 
-  pub row-x : at M (f x) ≡ some (node (mapped f (orElse u v)) m)
-  row-x = look-set-same (map (relink f) (without T y)) (f x) (node (mapped f (orElse u v)) m) (rw length-map (go (decLt x y)))
-    where
-      lx : x < length T
-      lx = look-lt T x (w .rowX)
+  row-x : at M (f x) ≡ some (node (mapped f (orElse u v)) m)
+  row-x =
+      let lx = look-lt T x (w .rowX) in let ly = look-lt T y (w .rowY) in let e = length-without T y ly in let ne : x ≢ y = w .differ in
+      look-set-same (map (relink f) (without T y)) (f x) (node (mapped f (orElse u v)) m)
+      (rw length-map (by-cases (decLt x y) (λ lt. let a = moved-low x y x lt in omega arith) (λ ge. let a = moved-high x y x (omega arith) in omega arith)))
 
-      ly : y < length T
-      ly = look-lt T y (w .rowY)
-
-      go : Dec (x < y) → f x < length (without T y)
-      go (yes lt) = let a = moved-low x y x lt in let b = length-without T y ly in omega (arith, ly)
-      go (no ge) = let ne : x ≢ y = w .differ in let a = moved-high x y x (omega arith) in let b = length-without T y ly in omega (arith, lx)
-
-  pub row-rest : (i : ℕ) → i ≢ f x → at M i ≡ mapped (relink f) (at T (back y i))
+  row-rest : (i : ℕ) → i ≢ f x → at M i ≡ mapped (relink f) (at T (back y i))
   row-rest i ne = look-set-other (map (relink f) (without T y)) (f x) i (node (mapped f (orElse u v)) m) ne
       ∙ look-map (relink f) (without T y) i ∙ ap (mapped (relink f)) (at-without T y i)
 
   -- a function that does not tell x from y does not see the merge
   pub merge-still : (h : ℕ → ℕ) → h x ≡ h y → (j : ℕ) → h (back y (f j)) ≡ h j
-  merge-still h e j = go (ℕ-discrete j y)
-    where
-      go : Dec (j ≡ y) → h (back y (f j)) ≡ h j
-      go (yes p) = ap (λ z. h (back y (f z))) p ∙ ap (λ z. h (back y z)) (moved-same x y (w .differ)) ∙ ap h (back-moved x y x (w .differ)) ∙ e ∙ ap h (sym p)
-      go (no ne) = ap h (back-moved x y j ne)
+  merge-still h e j = by-cases (ℕ-discrete j y)
+      (λ p. ap (λ z. h (back y z)) (ap f p ∙ moved-same x y (w .differ)) ∙ ap h (back-moved x y x (w .differ)) ∙ e ∙ ap h (sym p))
+      (λ ne. ap h (back-moved x y j ne))
 
   -- a row of the merged table is the glued one or an old one
   pub data MergedRow (i : ℕ) (r : Option ℕ) (n : Lab) : Type 0 where
@@ -217,13 +206,12 @@ module _ {T : Table} {x y : ℕ} {u v : Option ℕ} {l k : Lab} (w : Merge T x y
       go (old (some q) e′ el) = record { low = back y i; high = q; bears = n; row = e′; toLow = moved-back x y i; toHigh = cc }
 
   pub congruent-merged : (h : ℕ → ℕ) → h x ≡ h y → Congruent T h → Congruent M (λ i. h (back y i))
-  congruent-merged h e con i j p q n₁ n₂ ei ej same = go (edge-merged i p n₁ ei) (edge-merged j q n₂ ej)
+  congruent-merged h e con i j p q n₁ n₂ ei ej same =
+      let a = edge-merged i p n₁ ei in let b = edge-merged j q n₂ ej in
+      sym (now (a .toHigh)) ∙ con (a .low) (b .low) (a .high) (b .high) (a .bears) (b .bears) (a .row) (b .row) (now (a .toLow) ∙ same ∙ sym (now (b .toLow))) ∙ now (b .toHigh)
     where
       now : {i j : ℕ} → f j ≡ i → h j ≡ h (back y i)
       now = seen f (back y) h (merge-still h e)
-
-      go : EdgeOf T f i p → EdgeOf T f j q → h (back y p) ≡ h (back y q)
-      go a b = sym (now (a .toHigh)) ∙ con (a .low) (b .low) (a .high) (b .high) (a .bears) (b .bears) (a .row) (b .row) (now (a .toLow) ∙ same ∙ sym (now (b .toLow))) ∙ now (b .toHigh)
 
   module _ (em : meet l k ≡ some m) where
     pub label-merged : (i : ℕ) (r : Option ℕ) (c : ℕ) → at M i ≡ some (node r (lab c)) → LabelOf T f i c
@@ -251,29 +239,17 @@ module _ {T : Table} {x y : ℕ} {u v : Option ℕ} {l k : Lab} (w : Merge T x y
         edgeY none (some q) eu ev p ep = (f q, refl, ap (λ z. t (f z)) (let z : q ≡ p = cc in z))
         edgeY (some q) v′ eu ev p ep = (f q, refl, agree q p eu (ev ∙ ep))
 
+        glue-row : f j ≡ f x → ((a : ℕ) → Fits m a → Fits n a) → ((p : ℕ) → r ≡ some p → (q : ℕ) × (mapped f (orElse u v) ≡ some q) × (t q ≡ t (f p)))
+            → Kept t (λ p. t (f p)) M (f j) r n
+        glue-row ej fits edge = record { up = mapped f (orElse u v); bears = m; row = ap (at M) ej ∙ row-x; fits = fits; edge = edge }
+
         go : Dec (j ≡ x) → Dec (j ≡ y) → Kept t (λ p. t (f p)) M (f j) r n
         go (yes ex) dy =
-            let a = w .rowX in
-            let er : r ≡ u = cc in
-            let en : n ≡ l = cc in
-            record {
-              up = mapped f (orElse u v);
-              bears = m;
-              row = ap (λ z. at M (f z)) ex ∙ row-x;
-              fits = λ a g. subst (λ z. Fits z a) (sym en) ((meet-fits l k a em g) .0);
-              edge = λ p ep. edgeX u v p (sym er ∙ ep);
-            }
+            let z = w .rowX in let er : r ≡ u = cc in let en : l ≡ n = cc in
+            glue-row (ap f ex) (λ a g. subst (λ z. Fits z a) en ((meet-fits l k a em g) .0)) (λ p ep. edgeX u v p (sym er ∙ ep))
         go (no nx) (yes ey) =
-            let a = w .rowY in
-            let er : r ≡ v = cc in
-            let en : n ≡ k = cc in
-            record {
-              up = mapped f (orElse u v);
-              bears = m;
-              row = ap (λ z. at M (f z)) ey ∙ ap (at M) (moved-same x y (w .differ)) ∙ row-x;
-              fits = λ a g. subst (λ z. Fits z a) (sym en) ((meet-fits l k a em g) .1);
-              edge = λ p ep. edgeY u v refl refl p (sym er ∙ ep);
-            }
+            let z = w .rowY in let er : r ≡ v = cc in let en : k ≡ n = cc in
+            glue-row (ap f ey ∙ moved-same x y (w .differ)) (λ a g. subst (λ z. Fits z a) en ((meet-fits l k a em g) .1)) (λ p ep. edgeY u v refl refl p (sym er ∙ ep))
         go (no nx) (no ny) = record {
           up = mapped f r;
           bears = n;
