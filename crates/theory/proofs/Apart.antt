@@ -1,5 +1,5 @@
--- Gluing between two trees, and inside one, gives one tree. `Safe` says what the gluing of x and y in a table with a border b keeps: the rows
--- below b stay where they are. Between two trees the border is the length of the first; inside one tree it is 0.
+-- "Gluing two nodes glues their parents too, level by level: between two trees until one of them has no further ancestor, inside one tree
+-- until the two ancestors are the same node." One tree comes out, or no laying has both nodes on one node of a document.
 use mathlib.Core.Path.{_≡_, refl, sym, ap, subst, _∙_}
 use mathlib.Core.Logic.{_≢_, _⊎_, inl, inr, ⊎-swap, by-cases}
 use mathlib.Core.Option.{Option, none, some}
@@ -9,16 +9,21 @@ use native.Mathlib.Omega.{arith}
 use lib.ListN.{length}
 use Rattle.meaning.specs.Basics.{pick, mapped}
 use Rattle.meaning.specs.Document.{Doc}
-use Rattle.meaning.specs.TreeQuery.{Lab, lab, Row, node, Table, at, Live, Root, Linked, Tree, Laying}
+use Rattle.meaning.specs.TreeQuery.{Lab, lab, node, Table, at, Live, Root, Linked, Tree, Laying}
 use Rattle.meaning.specs.Gluing.{meet, moved, merged, relink, Glued, glue, shift, join, across, depth, within}
 use Rattle.theory.proofs.Look.{never, look-lt, live-lt}
 use Rattle.theory.proofs.Levels.{top-root}
-use Rattle.theory.proofs.Merge.{back, back-low, back-high, moved-low, moved-high, Merge, merge-still, MergedRow, glued, old, mergedRow, live-merged, linked-merged}
-use Rattle.theory.proofs.Gluing.{Quotient, Result, linked-closed, glue-right, clash-none, live-glued, edge-glued, root-glued, level-glued, linked-glued, laying-up, laying-down, still-glued}
+use Rattle.theory.proofs.Merge.{back, back-low, back-high, moved-low, moved-high}
+use Rattle.theory.proofs.Merge.{Merge, merge-still, MergedRow, glued, old, mergedRow, live-merged, linked-merged}
+use Rattle.theory.proofs.Gluing.{Quotient, Result, linked-closed, glue-right, clash-none, live-glued, edge-glued, root-glued, level-glued, linked-glued}
+use Rattle.theory.proofs.Gluing.{laying-up, laying-down, still-glued}
 use Rattle.theory.proofs.Depth.{depth-level, level-laid}
-use Rattle.theory.proofs.Join.{length-join, at-left, at-right, live-left, live-right, JoinRow, inFirst, inSecond, joinRow, fork, fork-left, fork-right, laying-left, laying-right, laying-fork}
+use Rattle.theory.proofs.Join.{length-join, at-left, at-right, live-left, live-right, JoinRow, inFirst, inSecond, joinRow}
+use Rattle.theory.proofs.Join.{fork, fork-left, fork-right, laying-left, laying-right, laying-fork}
 
--- the rows below b link to rows below b; from the level of x and y upwards the links of the others stay among the others
+-- ------------------------------------------------------------------ rows that keep their numbers
+-- x and y are glued, and no row below the border b is taken out: rows below b link to rows below b, and from the level of x and y upwards the
+-- others link to others. Between two trees the border is the length of the first table; inside one tree it is 0.
 pub record Safe (b : ℕ) (T : Table) (x y : ℕ) : Type 0 where
   pub lev : ℕ → ℕ
   pub linked : Linked T lev
@@ -36,7 +41,7 @@ moved-up x y b i by bi ne = by-cases (decLt i y) (λ lt. let e = moved-low x y i
 back-up : (y b i : ℕ) → b ≤ i → b ≤ back y i
 back-up y b i bi = by-cases (decLt i y) (λ lt. let e = back-low y i lt in omega arith) (λ ge. let e = back-high y i (omega arith) in omega arith)
 
--- one level up
+-- the parents of x and y, glued next, in the merged table
 pub safe-next : {T : Table} {x y p q : ℕ} {l k : Lab} (b : ℕ) (m : Lab) → Merge T x y (some p) (some q) l k → meet l k ≡ some m → Safe b T x y
     → Safe b (merged T x y (some p) m) (moved x y p) (moved x y q)
 safe-next {T} {x} {y} {p} {q} {l} {k} b m w em s = record {
@@ -47,7 +52,7 @@ safe-next {T} {x} {y} {p} {q} {l} {k} b m w em s = record {
   same = still p ∙ pq ∙ sym (still q);
   first = λ i j n e lt. first i j n lt (mergedRow w m i (some j) n e);
   second = λ i j n e le ge. second i j n le ge (mergedRow w m i (some j) n e);
-  left = λ pos. let e = moved-low x y p (omega (arith, s .first x p l (w .rowX) (s .left pos), s .right)) in omega (arith, s .first x p l (w .rowX) (s .left pos));
+  left = λ pos. stays p (moved x y p) (s .first x p l (w .rowX) (s .left pos)) refl;
   right = moved-up x y b q (s .right) (s .second y q k (w .rowY) (omega (arith, s .same)) (s .right)) (above q (omega (arith, pq)));
 }
   where
@@ -76,7 +81,8 @@ safe-next {T} {x} {y} {p} {q} {l} {k} b m w em s = record {
     first i j n lt (glued ei el _) = stays p j (s .first x p l (w .rowX) (s .left (omega arith))) (let z : j ≡ moved x y p = cc in z)
     first i j n lt (old none e el) = never cc
     first i j n lt (old (some j₀) e el) =
-        let z = back-low y i (omega (arith, s .right)) in stays j₀ j (s .first (back y i) j₀ n e (omega arith)) (let z : j ≡ moved x y j₀ = cc in z)
+        let z = back-low y i (omega (arith, s .right)) in
+        stays j₀ j (s .first (back y i) j₀ n e (omega arith)) (let z : j ≡ moved x y j₀ = cc in z)
 
     second : (i j : ℕ) (n : Lab) → lev (back y i) ≤ lev (back y (moved x y p)) → b ≤ i → MergedRow w m i (some j) n → b ≤ j
     second i j n le ge (glued ei el _) = let z = ap (λ z. lev (back y z)) ei in absurd (omega (arith, still x, still p, upX .1))
@@ -227,12 +233,14 @@ module _ {A B : Table} (ta : Tree A) (tb : Tree B) (a b : ℕ) (liveA : Live A a
         let top = ap (g .to) (sym (ta .single i (l, ei))) ∙ e in
         let z = ap now top in
         let (k′, row) = edge-right j q k ej in
-        one-top topA topB root-one (omega (arith, now-A, now-B, level-now (length A + j), level-right j, (tb .linked j q k ej) .1)) (λ ri. let a = ri .1 in let b = ap (at (g .rows)) top in never cc)
+        one-top topA topB root-one (omega (arith, now-A, now-B, level-now (length A + j), level-right j, (tb .linked j q k ej) .1))
+        (λ ri. let a = ri .1 in let b = ap (at (g .rows)) top in never cc)
     climb (suc n) i j (some p, l, ei) (none, k, ej) lt e =
         let top = ap (λ z. g .to (length A + z)) (sym (tb .single j (k, ej))) ∙ sym e in
         let z = ap now top in
         let (l′, row) = edge-left i p l ei in
-        one-top topB topA (λ i₁ ri. ⊎-swap (root-one i₁ ri)) (omega (arith, now-A, now-B, level-now i, level-left i (look-lt A i ei), (ta .linked i p l ei) .1)) (λ ri. let a = ri .1 in let b = ap (at (g .rows)) top in never cc)
+        one-top topB topA (λ i₁ ri. ⊎-swap (root-one i₁ ri)) (omega (arith, now-A, now-B, level-now i, level-left i (look-lt A i ei), (ta .linked i p l ei) .1))
+        (λ ri. let a = ri .1 in let b = ap (at (g .rows)) top in never cc)
     climb (suc n) i j (some p, l, ei) (some q, k, ej) lt e =
         let (lp, levP) = ta .linked i p l ei in
         let (lq, levQ) = tb .linked j q k ej in
@@ -240,13 +248,14 @@ module _ {A B : Table} (ta : Tree A) (tb : Tree B) (a b : ℕ) (liveA : Live A a
         let (k′, rowJ) = edge-right j q k ej in
         climb n p q lp lq (omega arith) (let z = ap (at (g .rows)) e in cc)
 
-    pub across-tree : Tree (g .rows)
+    across-tree : Tree (g .rows)
     across-tree =
         let (t, et, one) = climb (suc (ta .lev a)) a b liveA liveB (omega arith) (r .same) in
         record { lev = now; linked = linked-glued r lev linked-join level-same; top = t; topLev = et; single = one }
 
   pub across-glued : AcrossO A B a b (across A a B b)
-  across-glued = go (across A a B b) (glue-right (length T) T a (length A + b) (linked-closed T lev linked-join) (live-left A B a liveA) (live-right A B b liveB) (omega arith))
+  across-glued = go (across A a B b)
+      (glue-right (length T) T a (length A + b) (linked-closed T lev linked-join) (live-left A B a liveA) (live-right A B b liveB) (omega arith))
     where
       both : (D : Doc) (f f′ : ℕ → ℕ) → Laying D A f → Laying D B f′ → Laying D T (fork A f f′)
       both D f f′ = laying-fork D A B f f′ (linked-closed A (ta .lev) (ta .linked))
@@ -268,8 +277,12 @@ module _ {A B : Table} (ta : Tree A) (tb : Tree B) (a b : ℕ) (liveA : Live A a
         up = λ D h lay. let w = laying-up r D h lay in (laying-left D A B (λ i. h (g .to i)) w, laying-right D A B (λ i. h (g .to i)) w);
         down = λ D f f′ lay lay′ e.
             let w = both D f f′ lay lay′ in
-            let still = still-glued r D (fork A f f′) w (meets f f′ e) in
-            ((λ i. fork A f f′ (r .from i)), laying-down r D (fork A f f′) w (meets f f′ e), λ i li. still i ∙ fork-left A f f′ i (live-lt A i li), λ j. still (length A + j) ∙ fork-right A f f′ j);
+            let still = still-glued r D (fork A f f′) w (meets f f′ e) in (
+              (λ i. fork A f f′ (r .from i)),
+              laying-down r D (fork A f f′) w (meets f f′ e),
+              λ i li. still i ∙ fork-left A f f′ i (live-lt A i li),
+              λ j. still (length A + j) ∙ fork-right A f f′ j,
+            );
         short = let z = r .less (λ e. omega (arith, live-lt A a liveA)) in omega (arith, length-join A B);
         labels = λ c x. let (i, u, e) = bears-glued r c x in row c i u (joinRow A B i u (lab c) e);
       }

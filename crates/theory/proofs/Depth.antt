@@ -1,12 +1,13 @@
--- Depths in one tree: `depth` counts the level of a row, and rows that are laid on one node of a document lie at one level ("It fails .. inside one tree when the two lie at different depths").
-use mathlib.Core.Path.{_≡_, refl, sym, ap, subst, _∙_}
+-- Depths in one tree: `depth` counts the level of a row, and rows that are laid on one node of a document lie at one level ("It fails,
+-- giving empty, .. inside one tree when the two lie at different depths.").
+use mathlib.Core.Path.{_≡_, sym, ap, _∙_}
 use mathlib.Core.Logic.{_≢_}
-use mathlib.Core.Option.{Option, none, some}
+use mathlib.Core.Option.{none, some}
 use Prim.Native.Nat.{ℕ, zero, suc, _≤_, _<_}
 use native.Mathlib.Omega.{arith}
 use lib.ListN.{length}
-use Rattle.meaning.specs.Document.{Doc, Child}
-use Rattle.meaning.specs.TreeQuery.{Lab, Row, node, Table, at, Live, Root, Tree, Laying}
+use Rattle.meaning.specs.Document.{Doc}
+use Rattle.meaning.specs.TreeQuery.{Lab, node, Table, at, Live, Root, Tree, Laying}
 use Rattle.meaning.specs.Gluing.{depth}
 use Rattle.theory.proofs.Levels.{root-level, level-bound}
 use Rattle.theory.proofs.Gluing.{laid, laying-congruent}

@@ -12,9 +12,11 @@ use Rattle.meaning.specs.Document.{Doc, docRow, labelOf}
 use Rattle.meaning.specs.TreeQuery.{Lab, any, lab, Row, node, Table, at, Live, Root, Linked, Fits, EdgeKept, RowKept, Laying}
 use Rattle.meaning.specs.Gluing.{meet, moved, orElse, merged, Glued, after, glueLink, glueLab, glueStep, glue}
 use Rattle.theory.proofs.Look.{never, look-lt, live-lt}
-use Rattle.theory.proofs.Merge.{meet-none, back, moved-same, moved-back, length-merged, Merge, Congruent, Kept, EdgeOf, LabelOf, seen, linked-along, merge-still, live-before, edge-merged, congruent-merged, label-merged, kept-merged, live-merged}
+use Rattle.theory.proofs.Merge.{meet-none, back, moved-same, moved-back, length-merged, Merge, Congruent, Kept, EdgeOf, LabelOf, seen, linked-along}
+use Rattle.theory.proofs.Merge.{merge-still, live-before, edge-merged, congruent-merged, label-merged, kept-merged, live-merged}
 
--- g is T with x and y made one, and nothing more than that asks for
+-- g is T with x and y made one: each row is kept, each edge and label is brought from T, and no function sees the gluing that takes x and y
+-- to one value and the parents of rows with one value to one value
 pub record Quotient (T : Table) (x y : ℕ) (g : Glued) : Type 0 where
   pub from : ℕ → ℕ
   pub onto : (i : ℕ) → g .to (from i) ≡ i
@@ -44,7 +46,10 @@ abbrev pub Result : Table → ℕ → ℕ → Option Glued → Type 0
 Result T x y none = Clash T x y
 Result T x y (some g) = Quotient T x y g
 
-quotient-self : (T : Table) (x y : ℕ) → x ≡ y → Quotient T x y (record { rows = T; to = λ i. i })
+abbrev unchanged : Table → Glued
+unchanged T = record { rows = T; to = λ i. i }
+
+quotient-self : (T : Table) (x y : ℕ) → x ≡ y → Quotient T x y (unchanged T)
 quotient-self T x y e = record {
   from = λ i. i;
   onto = λ i. refl;
@@ -138,8 +143,8 @@ linked-closed T lev ok i p l e = (ok i p l e) .0
 abbrev Right : ℕ → Type 0
 Right n = (T : Table) (x y : ℕ) → Closed T → Live T x → Live T y → length T ≤ n → Result T x y (glue n T x y)
 
-links-right : (n : ℕ) → Right n → {T : Table} {x y : ℕ} (u v : Option ℕ) {l k : Lab} (m : Lab) → Merge T x y u v l k → meet l k ≡ some m → Closed T → length T ≤ suc n
-    → Result T x y (glueLink (glue n) (merged T x y (orElse u v) m) x y u v)
+links-right : (n : ℕ) → Right n → {T : Table} {x y : ℕ} (u v : Option ℕ) {l k : Lab} (m : Lab) → Merge T x y u v l k → meet l k ≡ some m
+    → Closed T → length T ≤ suc n → Result T x y (glueLink (glue n) (merged T x y (orElse u v) m) x y u v)
 links-right n rec {T} {x} {y} (some p) (some q) {l} {k} m w em cl le = through w m em (moved x y p) (moved x y q)
     (λ t e p₀ q₀ ep eq. let a : p ≡ p₀ = cc in let b : q ≡ q₀ = cc in ap (λ z. t (moved x y z)) (sym a) ∙ e ∙ ap (λ z. t (moved x y z)) b)
     (λ h con e. merge-still w m h e p ∙ con x y p q l k (w .rowX) (w .rowY) e ∙ sym (merge-still w m h e q))
@@ -153,9 +158,9 @@ links-right n rec {T} {x} {y} (some p) (some q) {l} {k} m w em cl le = through w
     closed : Closed N
     closed i j n e = let a = edge-merged w m i j n e in subst (Live N) (a .toHigh) (live-merged w m em (a .high) (cl (a .low) (a .high) (a .bears) (a .row)))
 links-right n rec {T} {x} {y} (some p) none m w em cl le =
-    through w m em 0 0 (λ t e p₀ q₀ ep eq. never cc) (λ h con e. refl) (some (record { rows = merged T x y (some p) m; to = λ i. i })) (quotient-self (merged T x y (some p) m) 0 0 refl)
+    through w m em 0 0 (λ t e p₀ q₀ ep eq. never cc) (λ h con e. refl) (some (unchanged (merged T x y (some p) m))) (quotient-self (merged T x y (some p) m) 0 0 refl)
 links-right n rec {T} {x} {y} none v m w em cl le =
-    through w m em 0 0 (λ t e p₀ q₀ ep eq. never cc) (λ h con e. refl) (some (record { rows = merged T x y v m; to = λ i. i })) (quotient-self (merged T x y v m) 0 0 refl)
+    through w m em 0 0 (λ t e p₀ q₀ ep eq. never cc) (λ h con e. refl) (some (unchanged (merged T x y v m))) (quotient-self (merged T x y v m) 0 0 refl)
 
 pub glue-right : (n : ℕ) (T : Table) (x y : ℕ) → Closed T → Live T x → Live T y → length T ≤ n → Result T x y (glue n T x y)
 glue-right zero T x y cl lx ly le = let z = live-lt T x lx in absurd (omega arith)

@@ -9,7 +9,7 @@ use native.Mathlib.Omega.{arith}
 use lib.ListN.{length, length-map, length-append}
 use Rattle.meaning.specs.Basics.{pick, mapped}
 use Rattle.meaning.specs.Document.{Doc}
-use Rattle.meaning.specs.TreeQuery.{Lab, Row, node, Table, at, Live, Linked, RowKept, Laying}
+use Rattle.meaning.specs.TreeQuery.{Lab, Row, node, Table, at, Live, RowKept, Laying}
 use Rattle.meaning.specs.Gluing.{relink, shift, join}
 use Rattle.theory.proofs.Look.{never, pick-yes, pick-no, look-lt, look-left, look-right, look-map, live-lt}
 use Rattle.theory.proofs.Gluing.{Closed}

@@ -107,11 +107,11 @@ pub record Merge (T : Table) (x y : ℕ) (u v : Option ℕ) (l k : Lab) : Type 0
   pub rowY : at T y ≡ some (node v k)
   pub differ : x ≢ y
 
--- h lays the parents of equal nodes on equal nodes
+-- h takes the parents of rows with one value to one value
 abbrev pub Congruent : Table → (ℕ → ℕ) → Type 0
 Congruent T h = (i j p q : ℕ) (l k : Lab) → at T i ≡ some (node (some p) l) → at T j ≡ some (node (some q) k) → h i ≡ h j → h p ≡ h q
 
--- row i of G bears at least the label l, and has a parent that t sends where s sends the parent w
+-- row i of G has a label that fits no more than l, and, where w is a parent p, a parent that t takes where s takes p
 pub record Kept (t s : ℕ → ℕ) (G : Table) (i : ℕ) (w : Option ℕ) (l : Lab) : Type 0 where
   pub up : Option ℕ
   pub bears : Lab
@@ -119,7 +119,7 @@ pub record Kept (t s : ℕ → ℕ) (G : Table) (i : ℕ) (w : Option ℕ) (l : 
   pub fits : (a : ℕ) → Fits bears a → Fits l a
   pub edge : (p : ℕ) → w ≡ some p → (q : ℕ) × (up ≡ some q) × (t q ≡ s p)
 
--- an edge, and a label, that t brings from T to row i
+-- an edge from row i to p, and a label c of row i, that t brings from T
 pub record EdgeOf (T : Table) (t : ℕ → ℕ) (i p : ℕ) : Type 0 where
   pub low : ℕ
   pub high : ℕ
@@ -134,7 +134,7 @@ pub record LabelOf (T : Table) (t : ℕ → ℕ) (i c : ℕ) : Type 0 where
   pub row : at T place ≡ some (node up (lab c))
   pub toPlace : t place ≡ i
 
--- where h does not see that t goes and b comes back, it sees the same before and after
+-- h does not see that t goes and b comes back
 pub seen : (t b h : ℕ → ℕ) → ((j : ℕ) → h (b (t j)) ≡ h j) → {i j : ℕ} → t j ≡ i → h j ≡ h (b i)
 seen t b h still {i} {j} e = sym (still j) ∙ ap (λ z. h (b z)) e
 

@@ -1,39 +1,39 @@
--- The plain tree query of an expression: it is a tree query and selects the pairs of the expression, it has at most one node more than the
--- expression has steps, and its labels are labels of the expression. All three by one induction over the expression.
+-- The plain tree query of an expression (paper, figures 9 and 10): it is a tree query and selects the pairs of the expression, it has at most
+-- one node more than the expression has steps, and its labels are labels of the expression. One induction over the expression shows all three.
 use mathlib.Core.Path.{_≡_, refl, sym, ap, _∙_}
 use mathlib.Core.Logic.{_↔_, _⊎_, inl, inr}
 use mathlib.Core.Option.{Option, none, some}
 use mathlib.Core.List.{[], _∷_}
-use Prim.Native.Nat.{ℕ, zero, suc, _+_, _≤_, _<_}
+use Prim.Native.Nat.{ℕ, zero, suc, _+_, _≤_}
 use native.Mathlib.Omega.{arith}
 use lib.ListN.{length}
 use Rattle.meaning.specs.Basics.{mapped}
 use Rattle.meaning.specs.Document.{Doc, In, Child, labelOf}
 use Rattle.meaning.specs.Expression.{Expr, empty, self, child, parent, label, comp, inter, proj1, proj2, inv, pairs, steps}
-use Rattle.meaning.specs.TreeQuery.{Lab, any, lab, Row, node, Table, at, Query, nodes, Live, Root, Linked, Tree, TreeQuery, Fits, Laying, Selects}
-use Rattle.meaning.specs.Gluing.{Glued, join, across, within, placed, composed, thenWithin, intersected, two, oneNode, twoNodes, bothAtS, bothAtD, exchanged, plain}
-use Rattle.theory.proofs.Look.{never, live-lt, lt-live}
+use Rattle.meaning.specs.TreeQuery.{Lab, any, lab, node, Table, at, Query, nodes, Root, Linked, TreeQuery, Fits, Laying, Selects}
+use Rattle.meaning.specs.Gluing.{Glued, across, within, placed, composed, thenWithin, intersected, two, oneNode, twoNodes, bothAtS, bothAtD, exchanged, plain}
+use Rattle.theory.proofs.Look.{never}
 use Rattle.theory.proofs.Labels.{LabelsIn}
-use Rattle.theory.proofs.Gluing.{Quotient, live-glued, laying-up, laying-down, still-glued}
-use Rattle.theory.proofs.Apart.{Bears, bears-glued, Across, AcrossO, across-glued, Within, within-glued}
+use Rattle.theory.proofs.Gluing.{live-glued, laying-up, laying-down, still-glued}
+use Rattle.theory.proofs.Apart.{Bears, bears-glued, AcrossO, across-glued, Within, within-glued}
 
 -- ------------------------------------------------------------------ two operands glued
 -- R is a tree query with the meaning S; it has fewer nodes than P and Q together, and no other labels
-pub record Glues (S : Doc → ℕ → ℕ → Type 0) (P Q R : Query) : Type 0 where
-  pub valid : TreeQuery R
-  pub means : (D : Doc) (m n : ℕ) → S D m n ↔ Selects R D m n
-  pub short : suc (nodes R) ≤ nodes P + nodes Q
-  pub labels : (c : ℕ) → Bears (R .rows) c → Bears (P .rows) c ⊎ Bears (Q .rows) c
+record Glues (S : Doc → ℕ → ℕ → Type 0) (P Q R : Query) : Type 0 where
+  valid : TreeQuery R
+  means : (D : Doc) (m n : ℕ) → S D m n ↔ Selects R D m n
+  short : suc (nodes R) ≤ nodes P + nodes Q
+  labels : (c : ℕ) → Bears (R .rows) c → Bears (P .rows) c ⊎ Bears (Q .rows) c
 
-abbrev pub GluesO : (Doc → ℕ → ℕ → Type 0) → Query → Query → Option Query → Type 0
+abbrev GluesO : (Doc → ℕ → ℕ → Type 0) → Query → Query → Option Query → Type 0
 GluesO S P Q none = (D : Doc) (m n : ℕ) → S D m n → ⊥
 GluesO S P Q (some R) = Glues S P Q R
 
 -- the meanings of composition and of intersection
-abbrev pub Comp : Query → Query → Doc → ℕ → ℕ → Type 0
+abbrev Comp : Query → Query → Doc → ℕ → ℕ → Type 0
 Comp P Q D m n = (k : ℕ) × Selects P D m k × Selects Q D k n
 
-abbrev pub Both : Query → Query → Doc → ℕ → ℕ → Type 0
+abbrev Both : Query → Query → Doc → ℕ → ℕ → Type 0
 Both P Q D m n = Selects P D m n × Selects Q D m n
 
 module _ (P Q : Query) (vp : TreeQuery P) (vq : TreeQuery Q) where
@@ -44,7 +44,7 @@ module _ (P Q : Query) (vp : TreeQuery P) (vq : TreeQuery Q) where
   B = Q .rows
 
   -- "Composition glues the first's d to the second's s"
-  pub composed-glues : GluesO (Comp P Q) P Q (composed P Q)
+  composed-glues : GluesO (Comp P Q) P Q (composed P Q)
   composed-glues = go (across A (P .d) B (Q .s)) (across-glued (vp .tree) (vq .tree) (P .d) (Q .s) (vp .dLive) (vq .sLive))
     where
       go : (o : Option Glued) → AcrossO A B (P .d) (Q .s) o → GluesO (Comp P Q) P Q (placed o (P .s) (length A + Q .d))
@@ -63,7 +63,7 @@ module _ (P Q : Query) (vp : TreeQuery P) (vq : TreeQuery Q) where
       }
 
   -- "intersection glues s to s, then d to d in that result"
-  pub intersected-glues : GluesO (Both P Q) P Q (intersected P Q)
+  intersected-glues : GluesO (Both P Q) P Q (intersected P Q)
   intersected-glues = go (across A (P .s) B (Q .s)) (across-glued (vp .tree) (vq .tree) (P .s) (Q .s) (vp .sLive) (vq .sLive))
     where
       go : (o : Option Glued) → AcrossO A B (P .s) (Q .s) o → GluesO (Both P Q) P Q (thenWithin o (P .s) (P .d) (length A + Q .d))
@@ -219,7 +219,8 @@ module _ (P : ℕ → Type 0) where
   two-labels (suc (suc i)) u c e = never cc
 
   -- two operands that are built, glued
-  glues-built : (e e₁ e₂ : Expr) (S : Doc → ℕ → ℕ → Type 0) {Q₁ Q₂ : Query} → Built P e₁ Q₁ → Built P e₂ Q₂ → steps e ≡ steps e₁ + steps e₂ → (LabelsIn P e → LabelsIn P e₁ × LabelsIn P e₂)
+  glues-built : (e e₁ e₂ : Expr) (S : Doc → ℕ → ℕ → Type 0) {Q₁ Q₂ : Query} → Built P e₁ Q₁ → Built P e₂ Q₂
+      → steps e ≡ steps e₁ + steps e₂ → (LabelsIn P e → LabelsIn P e₁ × LabelsIn P e₂)
       → ((D : Doc) (m n : ℕ) → pairs e D m n ↔ S D m n) → (o : Option Query) → GluesO S Q₁ Q₂ o → BuiltO P e o
   glues-built e e₁ e₂ S w₁ w₂ es split eq none g = λ D m n a. g D m n ((eq D m n) .0 a)
   glues-built e e₁ e₂ S {Q₁} {Q₂} w₁ w₂ es split eq (some R) g = record {
@@ -286,7 +287,12 @@ module _ (P : ℕ → Type 0) where
     few = omega arith;
     labels = λ _. one-labels any (λ c e. never cc);
   }
-  plain-built (label l) = record { valid = one-valid (lab l); means = one-selects (lab l); few = omega arith; labels = λ p. one-labels (lab l) (λ c e. rw (let z : l ≡ c = cc in z) at p) }
+  plain-built (label l) = record {
+    valid = one-valid (lab l);
+    means = one-selects (lab l);
+    few = omega arith;
+    labels = λ p. one-labels (lab l) (λ c e. rw (let z : l ≡ c = cc in z) at p);
+  }
   plain-built child = child-built
   plain-built parent = inv-built child (plain child) child-built
   plain-built (comp e f) = comp-built e f (plain e) (plain f) (plain-built e) (plain-built f)
