@@ -50,8 +50,8 @@ safe-next {T} {x} {y} {p} {q} {l} {k} b m w em s = record {
   liveX = live-merged w m em p (upX .0);
   liveY = live-merged w m em q (upY .0);
   same = still p ∙ pq ∙ sym (still q);
-  first = λ i j n e lt. first i j n lt (mergedRow w m i (some j) n e);
-  second = λ i j n e le ge. second i j n le ge (mergedRow w m i (some j) n e);
+  first = λ i j l₀ e lt. first i j l₀ lt (mergedRow w m i (some j) l₀ e);
+  second = λ i j l₀ e le ge. second i j l₀ le ge (mergedRow w m i (some j) l₀ e);
   left = λ pos. stays p (moved x y p) (s .first x p l (w .rowX) (s .left pos)) refl;
   right = moved-up x y b q (s .right) (s .second y q k (w .rowY) (omega (arith, s .same)) (s .right)) (above q (omega (arith, pq)));
 }
@@ -77,19 +77,19 @@ safe-next {T} {x} {y} {p} {q} {l} {k} b m w em s = record {
     stays : (j j′ : ℕ) → j < b → j′ ≡ moved x y j → j′ < b
     stays j j′ lt e = let z = moved-low x y j (omega (arith, s .right)) in omega arith
 
-    first : (i j : ℕ) (n : Lab) → i < b → MergedRow w m i (some j) n → j < b
-    first i j n lt (glued ei el _) = stays p j (s .first x p l (w .rowX) (s .left (omega arith))) (let z : j ≡ moved x y p = cc in z)
-    first i j n lt (old none e el) = never cc
-    first i j n lt (old (some j₀) e el) =
+    first : (i j : ℕ) (l₀ : Lab) → i < b → MergedRow w m i (some j) l₀ → j < b
+    first i j l₀ lt (glued ei el _) = stays p j (s .first x p l (w .rowX) (s .left (omega arith))) (let z : j ≡ moved x y p = cc in z)
+    first i j l₀ lt (old none e el) = never cc
+    first i j l₀ lt (old (some j₀) e el) =
         let z = back-low y i (omega (arith, s .right)) in
-        stays j₀ j (s .first (back y i) j₀ n e (omega arith)) (let z : j ≡ moved x y j₀ = cc in z)
+        stays j₀ j (s .first (back y i) j₀ l₀ e (omega arith)) (let z : j ≡ moved x y j₀ = cc in z)
 
-    second : (i j : ℕ) (n : Lab) → lev (back y i) ≤ lev (back y (moved x y p)) → b ≤ i → MergedRow w m i (some j) n → b ≤ j
-    second i j n le ge (glued ei el _) = let z = ap (λ z. lev (back y z)) ei in absurd (omega (arith, still x, still p, upX .1))
-    second i j n le ge (old none e el) = never cc
-    second i j n le ge (old (some j₀) e el) =
-        let a = (s .linked (back y i) j₀ n e) .1 in
-        let c = s .second (back y i) j₀ n e (omega (arith, still p, upX .1)) (back-up y b i ge) in
+    second : (i j : ℕ) (l₀ : Lab) → lev (back y i) ≤ lev (back y (moved x y p)) → b ≤ i → MergedRow w m i (some j) l₀ → b ≤ j
+    second i j l₀ le ge (glued ei el _) = let z = ap (λ z. lev (back y z)) ei in absurd (omega (arith, still x, still p, upX .1))
+    second i j l₀ le ge (old none e el) = never cc
+    second i j l₀ le ge (old (some j₀) e el) =
+        let a = (s .linked (back y i) j₀ l₀ e) .1 in
+        let c = s .second (back y i) j₀ l₀ e (omega (arith, still p, upX .1)) (back-up y b i ge) in
         let d : j ≡ moved x y j₀ = cc in
         rw d (moved-up x y b j₀ (s .right) c (above j₀ (omega (arith, still p))))
 
@@ -122,14 +122,20 @@ module _ {A B : Table} (ta : Tree A) (tb : Tree B) (a b : ℕ) (liveA : Live A a
   T = join A B
 
   -- the levels of both, so that a and b lie at one level
+  abbrev levA : ℕ → ℕ
+  levA i = ta .lev i + (tb .lev b - ta .lev a)
+
+  abbrev levB : ℕ → ℕ
+  levB j = tb .lev j + (ta .lev a - tb .lev b)
+
   abbrev lev : ℕ → ℕ
-  lev = fork A (λ i. ta .lev i + (tb .lev b - ta .lev a)) (λ j. tb .lev j + (ta .lev a - tb .lev b))
+  lev = fork A levA levB
 
-  level-left : (i : ℕ) → i < length A → lev i ≡ ta .lev i + (tb .lev b - ta .lev a)
-  level-left = fork-left A (λ i. ta .lev i + (tb .lev b - ta .lev a)) (λ j. tb .lev j + (ta .lev a - tb .lev b))
+  level-left : (i : ℕ) → i < length A → lev i ≡ levA i
+  level-left = fork-left A levA levB
 
-  level-right : (j : ℕ) → lev (length A + j) ≡ tb .lev j + (ta .lev a - tb .lev b)
-  level-right = fork-right A (λ i. ta .lev i + (tb .lev b - ta .lev a)) (λ j. tb .lev j + (ta .lev a - tb .lev b))
+  level-right : (j : ℕ) → lev (length A + j) ≡ levB j
+  level-right = fork-right A levA levB
 
   level-same : lev a ≡ lev (length A + b)
   level-same = omega (arith, level-left a (live-lt A a liveA), level-right b)

@@ -22,9 +22,9 @@ pub record Quotient (T : Table) (x y : ℕ) (g : Glued) : Type 0 where
   pub onto : (i : ℕ) → g .to (from i) ≡ i
   pub same : g .to x ≡ g .to y
   pub old : (i : ℕ) → Live (g .rows) i → Live T (from i)
-  pub kept : (j : ℕ) (r : Option ℕ) (n : Lab) → at T j ≡ some (node r n) → Kept (λ p. p) (g .to) (g .rows) (g .to j) r n
-  pub edges : (i p : ℕ) (n : Lab) → at (g .rows) i ≡ some (node (some p) n) → EdgeOf T (g .to) i p
-  pub labels : (i : ℕ) (r : Option ℕ) (c : ℕ) → at (g .rows) i ≡ some (node r (lab c)) → LabelOf T (g .to) i c
+  pub kept : (j : ℕ) (u : Option ℕ) (l : Lab) → at T j ≡ some (node u l) → Kept (λ p. p) (g .to) (g .rows) (g .to j) u l
+  pub edges : (i p : ℕ) (l : Lab) → at (g .rows) i ≡ some (node (some p) l) → EdgeOf T (g .to) i p
+  pub labels : (i : ℕ) (u : Option ℕ) (c : ℕ) → at (g .rows) i ≡ some (node u (lab c)) → LabelOf T (g .to) i c
   pub least : (h : ℕ → ℕ) → Congruent T h → h x ≡ h y → (j : ℕ) → h (from (g .to j)) ≡ h j
   pub fewer : length (g .rows) ≤ length T
   pub less : x ≢ y → suc (length (g .rows)) ≤ length T
@@ -55,9 +55,9 @@ quotient-self T x y e = record {
   onto = λ i. refl;
   same = e;
   old = λ i li. li;
-  kept = λ j r n ej. record { up = r; bears = n; row = ej; fits = λ a g. g; edge = λ p ep. (p, ep, refl) };
-  edges = λ i p n ei. record { low = i; high = p; bears = n; row = ei; toLow = refl; toHigh = refl };
-  labels = λ i r c ei. record { place = i; up = r; row = ei; toPlace = refl };
+  kept = λ j u l ej. record { up = u; bears = l; row = ej; fits = λ a g. g; edge = λ p ep. (p, ep, refl) };
+  edges = λ i p l ei. record { low = i; high = p; bears = l; row = ei; toLow = refl; toHigh = refl };
+  labels = λ i u c ei. record { place = i; up = u; row = ei; toPlace = refl };
   least = λ h con eh j. refl;
   fewer = omega arith;
   less = λ ne. absurd (ne e);
@@ -97,9 +97,9 @@ module _ {T : Table} {x y : ℕ} {u v : Option ℕ} {l k : Lab} (w : Merge T x y
     onto = λ i. ap (g .to) (moved-back x y (r .from i)) ∙ r .onto i;
     same = ap (g .to) (sym (moved-same x y (w .differ)));
     old = λ i li. live-before w m (r .from i) (r .old i li);
-    kept = λ j s n e. keep j s n (kept-merged w m em (g .to) (agree (g .to) (r .same)) j s n e);
-    edges = λ i j n e. edge (r .edges i j n e);
-    labels = λ i s c e. label (r .labels i s c e);
+    kept = λ j u₀ l₀ e. keep j u₀ l₀ (kept-merged w m em (g .to) (agree (g .to) (r .same)) j u₀ l₀ e);
+    edges = λ i j l₀ e. edge (r .edges i j l₀ e);
+    labels = λ i u₀ c e. label (r .labels i u₀ c e);
     least = λ h con e j. r .least (λ z. h (back y z)) (congruent-merged w m h e con) (close h con e) (moved x y j) ∙ merge-still w m h e j;
     fewer = omega (arith, small);
     less = λ ne. small;
@@ -111,8 +111,8 @@ module _ {T : Table} {x y : ℕ} {u v : Option ℕ} {l k : Lab} (w : Merge T x y
       small : suc (length (g .rows)) ≤ length T
       small = omega (arith, length-merged T x y (orElse u v) m (look-lt T y (w .rowY)), r .fewer)
 
-      keep : (j : ℕ) (s : Option ℕ) (n : Lab) → Kept (g .to) to₁ M (moved x y j) s n → Kept (λ z. z) to₁ (g .rows) (to₁ j) s n
-      keep j s n a =
+      keep : (j : ℕ) (u₀ : Option ℕ) (l₀ : Lab) → Kept (g .to) to₁ M (moved x y j) u₀ l₀ → Kept (λ z. z) to₁ (g .rows) (to₁ j) u₀ l₀
+      keep j u₀ l₀ a =
           let b = r .kept (moved x y j) (a .up) (a .bears) (a .row) in
           record {
             up = b .up;
@@ -156,7 +156,7 @@ links-right n rec {T} {x} {y} (some p) (some q) {l} {k} m w em cl le = through w
     N = merged T x y (some p) m
 
     closed : Closed N
-    closed i j n e = let a = edge-merged w m i j n e in subst (Live N) (a .toHigh) (live-merged w m em (a .high) (cl (a .low) (a .high) (a .bears) (a .row)))
+    closed i j l₀ e = let a = edge-merged w m i j l₀ e in subst (Live N) (a .toHigh) (live-merged w m em (a .high) (cl (a .low) (a .high) (a .bears) (a .row)))
 links-right n rec {T} {x} {y} (some p) none m w em cl le =
     through w m em 0 0 (λ t e p₀ q₀ ep eq. never cc) (λ h con e. refl) (some (unchanged (merged T x y (some p) m))) (quotient-self (merged T x y (some p) m) 0 0 refl)
 links-right n rec {T} {x} {y} none v m w em cl le =

@@ -140,9 +140,9 @@ seen t b h still {i} {j} e = sym (still j) ∙ ap (λ z. h (b z)) e
 
 -- levels of T are levels of G, whose edges t brings from T
 pub linked-along : (T G : Table) (t b lev : ℕ → ℕ) → Linked T lev → ((j : ℕ) → lev (b (t j)) ≡ lev j) → ((j : ℕ) → Live T j → Live G (t j))
-    → ((i p : ℕ) (n : Lab) → at G i ≡ some (node (some p) n) → EdgeOf T t i p) → Linked G (λ i. lev (b i))
-linked-along T G t b lev ok still live edges i p n e =
-    let a = edges i p n e in
+    → ((i p : ℕ) (l : Lab) → at G i ≡ some (node (some p) l) → EdgeOf T t i p) → Linked G (λ i. lev (b i))
+linked-along T G t b lev ok still live edges i p l e =
+    let a = edges i p l e in
     let (lq, eq) = ok (a .low) (a .high) (a .bears) (a .row) in
     (subst (Live G) (a .toHigh) (live (a .high) lq), sym (seen t b lev still (a .toLow)) ∙ eq ∙ ap suc (seen t b lev still (a .toHigh)))
 
@@ -170,65 +170,65 @@ module _ {T : Table} {x y : ℕ} {u v : Option ℕ} {l k : Lab} (w : Merge T x y
       (λ ne. ap h (back-moved x y j ne))
 
   -- a row of the merged table is the glued one or an old one
-  pub data MergedRow (i : ℕ) (r : Option ℕ) (n : Lab) : Type 0 where
-    glued : i ≡ f x → r ≡ mapped f (orElse u v) → n ≡ m → MergedRow i r n
-    old : (r₀ : Option ℕ) → at T (back y i) ≡ some (node r₀ n) → r ≡ mapped f r₀ → MergedRow i r n
+  pub data MergedRow (i : ℕ) (u₀ : Option ℕ) (l₀ : Lab) : Type 0 where
+    glued : i ≡ f x → u₀ ≡ mapped f (orElse u v) → l₀ ≡ m → MergedRow i u₀ l₀
+    old : (u₁ : Option ℕ) → at T (back y i) ≡ some (node u₁ l₀) → u₀ ≡ mapped f u₁ → MergedRow i u₀ l₀
 
-  pub mergedRow : (i : ℕ) (r : Option ℕ) (n : Lab) → at M i ≡ some (node r n) → MergedRow i r n
-  mergedRow i r n e = go (ℕ-discrete i (f x))
+  pub mergedRow : (i : ℕ) (u₀ : Option ℕ) (l₀ : Lab) → at M i ≡ some (node u₀ l₀) → MergedRow i u₀ l₀
+  mergedRow i u₀ l₀ e = go (ℕ-discrete i (f x))
     where
-      row : (o : Option Row) → at T (back y i) ≡ o → mapped (relink f) o ≡ some (node r n) → MergedRow i r n
+      row : (o : Option Row) → at T (back y i) ≡ o → mapped (relink f) o ≡ some (node u₀ l₀) → MergedRow i u₀ l₀
       row none e₁ e₂ = never cc
-      row (some (node r₀ n₀)) e₁ e₂ = old r₀ (let z : at T (back y i) ≡ some (node r₀ n) = cc in z) (let z : r ≡ mapped f r₀ = cc in z)
+      row (some (node u₁ l₁)) e₁ e₂ = old u₁ (let z : at T (back y i) ≡ some (node u₁ l₀) = cc in z) (let z : u₀ ≡ mapped f u₁ = cc in z)
 
-      go : Dec (i ≡ f x) → MergedRow i r n
-      go (yes p) = let a = row-x in let b = sym (ap (at M) p) ∙ e in glued p (let z : r ≡ mapped f (orElse u v) = cc in z) (let z : n ≡ m = cc in z)
+      go : Dec (i ≡ f x) → MergedRow i u₀ l₀
+      go (yes p) = let a = row-x in let b = sym (ap (at M) p) ∙ e in glued p (let z : u₀ ≡ mapped f (orElse u v) = cc in z) (let z : l₀ ≡ m = cc in z)
       go (no ne) = row (at T (back y i)) refl (sym (row-rest i ne) ∙ e)
 
   pub live-before : (i : ℕ) → Live M i → Live T (back y i)
-  live-before i (r, n, e) = go (mergedRow i r n e)
+  live-before i (u₀, l₀, e) = go (mergedRow i u₀ l₀ e)
     where
-      go : MergedRow i r n → Live T (back y i)
+      go : MergedRow i u₀ l₀ → Live T (back y i)
       go (glued p _ _) = (u, l, ap (λ z. at T (back y z)) p ∙ ap (at T) (back-moved x y x (w .differ)) ∙ w .rowX)
-      go (old r₀ e′ _) = (r₀, n, e′)
+      go (old u₁ e′ _) = (u₁, l₀, e′)
 
-  pub edge-merged : (i p : ℕ) (n : Lab) → at M i ≡ some (node (some p) n) → EdgeOf T f i p
-  edge-merged i p n e = go (mergedRow i (some p) n e)
+  pub edge-merged : (i p : ℕ) (l₀ : Lab) → at M i ≡ some (node (some p) l₀) → EdgeOf T f i p
+  edge-merged i p l₀ e = go (mergedRow i (some p) l₀ e)
     where
       ends : (u′ v′ : Option ℕ) → at T x ≡ some (node u′ l) → at T y ≡ some (node v′ k) → i ≡ f x → some p ≡ mapped f (orElse u′ v′) → EdgeOf T f i p
       ends none none ex ey ei el = never cc
       ends none (some q) ex ey ei el = record { low = y; high = q; bears = k; row = ey; toLow = moved-same x y (w .differ) ∙ sym ei; toHigh = cc }
       ends (some q) v′ ex ey ei el = record { low = x; high = q; bears = l; row = ex; toLow = sym ei; toHigh = cc }
 
-      go : MergedRow i (some p) n → EdgeOf T f i p
+      go : MergedRow i (some p) l₀ → EdgeOf T f i p
       go (glued ei el _) = ends u v (w .rowX) (w .rowY) ei el
       go (old none e′ el) = never cc
-      go (old (some q) e′ el) = record { low = back y i; high = q; bears = n; row = e′; toLow = moved-back x y i; toHigh = cc }
+      go (old (some q) e′ el) = record { low = back y i; high = q; bears = l₀; row = e′; toLow = moved-back x y i; toHigh = cc }
 
   pub congruent-merged : (h : ℕ → ℕ) → h x ≡ h y → Congruent T h → Congruent M (λ i. h (back y i))
-  congruent-merged h e con i j p q n₁ n₂ ei ej same =
-      let a = edge-merged i p n₁ ei in let b = edge-merged j q n₂ ej in
+  congruent-merged h e con i j p q l₁ l₂ ei ej same =
+      let a = edge-merged i p l₁ ei in let b = edge-merged j q l₂ ej in
       sym (now (a .toHigh)) ∙ con (a .low) (b .low) (a .high) (b .high) (a .bears) (b .bears) (a .row) (b .row) (now (a .toLow) ∙ same ∙ sym (now (b .toLow))) ∙ now (b .toHigh)
     where
       now : {i j : ℕ} → f j ≡ i → h j ≡ h (back y i)
       now = seen f (back y) h (merge-still h e)
 
   module _ (em : meet l k ≡ some m) where
-    pub label-merged : (i : ℕ) (r : Option ℕ) (c : ℕ) → at M i ≡ some (node r (lab c)) → LabelOf T f i c
-    label-merged i r c e = go (mergedRow i r (lab c) e)
+    pub label-merged : (i : ℕ) (u₀ : Option ℕ) (c : ℕ) → at M i ≡ some (node u₀ (lab c)) → LabelOf T f i c
+    label-merged i u₀ c e = go (mergedRow i u₀ (lab c) e)
       where
         side : i ≡ f x → (l ≡ lab c) ⊎ (k ≡ lab c) → LabelOf T f i c
         side ei (inl el) = record { place = x; up = u; row = w .rowX ∙ ap (λ z. some (node u z)) el; toPlace = sym ei }
         side ei (inr ek) = record { place = y; up = v; row = w .rowY ∙ ap (λ z. some (node v z)) ek; toPlace = moved-same x y (w .differ) ∙ sym ei }
 
-        go : MergedRow i r (lab c) → LabelOf T f i c
+        go : MergedRow i u₀ (lab c) → LabelOf T f i c
         go (glued ei _ en) = side ei (meet-lab l k (em ∙ ap some (sym en)))
-        go (old r₀ e′ _) = record { place = back y i; up = r₀; row = e′; toPlace = moved-back x y i }
+        go (old u₁ e′ _) = record { place = back y i; up = u₁; row = e′; toPlace = moved-back x y i }
 
     -- every row is kept, where t makes the two parents one
-    pub kept-merged : (t : ℕ → ℕ) → ((p q : ℕ) → u ≡ some p → v ≡ some q → t (f p) ≡ t (f q)) → (j : ℕ) (r : Option ℕ) (n : Lab) → at T j ≡ some (node r n)
-        → Kept t (λ p. t (f p)) M (f j) r n
-    kept-merged t agree j r n e = go (ℕ-discrete j x) (ℕ-discrete j y)
+    pub kept-merged : (t : ℕ → ℕ) → ((p q : ℕ) → u ≡ some p → v ≡ some q → t (f p) ≡ t (f q)) → (j : ℕ) (u₀ : Option ℕ) (l₀ : Lab) → at T j ≡ some (node u₀ l₀)
+        → Kept t (λ p. t (f p)) M (f j) u₀ l₀
+    kept-merged t agree j u₀ l₀ e = go (ℕ-discrete j x) (ℕ-discrete j y)
       where
         edgeX : (u′ v′ : Option ℕ) (p : ℕ) → u′ ≡ some p → (q : ℕ) × (mapped f (orElse u′ v′) ≡ some q) × (t q ≡ t (f p))
         edgeX none v′ p ep = never cc
@@ -239,20 +239,20 @@ module _ {T : Table} {x y : ℕ} {u v : Option ℕ} {l k : Lab} (w : Merge T x y
         edgeY none (some q) eu ev p ep = (f q, refl, ap (λ z. t (f z)) (let z : q ≡ p = cc in z))
         edgeY (some q) v′ eu ev p ep = (f q, refl, agree q p eu (ev ∙ ep))
 
-        glue-row : f j ≡ f x → ((a : ℕ) → Fits m a → Fits n a) → ((p : ℕ) → r ≡ some p → (q : ℕ) × (mapped f (orElse u v) ≡ some q) × (t q ≡ t (f p)))
-            → Kept t (λ p. t (f p)) M (f j) r n
+        glue-row : f j ≡ f x → ((a : ℕ) → Fits m a → Fits l₀ a) → ((p : ℕ) → u₀ ≡ some p → (q : ℕ) × (mapped f (orElse u v) ≡ some q) × (t q ≡ t (f p)))
+            → Kept t (λ p. t (f p)) M (f j) u₀ l₀
         glue-row ej fits edge = record { up = mapped f (orElse u v); bears = m; row = ap (at M) ej ∙ row-x; fits = fits; edge = edge }
 
-        go : Dec (j ≡ x) → Dec (j ≡ y) → Kept t (λ p. t (f p)) M (f j) r n
+        go : Dec (j ≡ x) → Dec (j ≡ y) → Kept t (λ p. t (f p)) M (f j) u₀ l₀
         go (yes ex) dy =
-            let z = w .rowX in let er : r ≡ u = cc in let en : l ≡ n = cc in
+            let z = w .rowX in let er : u₀ ≡ u = cc in let en : l ≡ l₀ = cc in
             glue-row (ap f ex) (λ a g. subst (λ z. Fits z a) en ((meet-fits l k a em g) .0)) (λ p ep. edgeX u v p (sym er ∙ ep))
         go (no nx) (yes ey) =
-            let z = w .rowY in let er : r ≡ v = cc in let en : k ≡ n = cc in
+            let z = w .rowY in let er : u₀ ≡ v = cc in let en : k ≡ l₀ = cc in
             glue-row (ap f ey ∙ moved-same x y (w .differ)) (λ a g. subst (λ z. Fits z a) en ((meet-fits l k a em g) .1)) (λ p ep. edgeY u v refl refl p (sym er ∙ ep))
         go (no nx) (no ny) = record {
-          up = mapped f r;
-          bears = n;
+          up = mapped f u₀;
+          bears = l₀;
           row = row-rest (f j) (λ q. nx (sym (back-moved x y j ny) ∙ ap (back y) q ∙ back-moved x y x (w .differ)))
               ∙ ap (λ z. mapped (relink f) (at T z)) (back-moved x y j ny) ∙ ap (mapped (relink f)) e;
           fits = λ a g. g;
@@ -260,7 +260,7 @@ module _ {T : Table} {x y : ℕ} {u v : Option ℕ} {l k : Lab} (w : Merge T x y
         }
 
     pub live-merged : (j : ℕ) → Live T j → Live M (f j)
-    live-merged j (r, n, e) = let a = kept-merged (λ _. 0) (λ _ _ _ _. refl) j r n e in (a .up, a .bears, a .row)
+    live-merged j (u₀, l₀, e) = let a = kept-merged (λ _. 0) (λ _ _ _ _. refl) j u₀ l₀ e in (a .up, a .bears, a .row)
 
     pub linked-merged : (lev : ℕ → ℕ) → Linked T lev → lev x ≡ lev y → Linked M (λ i. lev (back y i))
     linked-merged lev ok e = linked-along T M f (back y) lev ok (merge-still lev e) live-merged edge-merged
