@@ -2,13 +2,13 @@
 -- and a tree has fewer levels than rows, so that many rounds of reading reach every node.
 use mathlib.Core.Path.{_≡_, refl, sym, ap, subst, _∙_}
 use mathlib.Core.Logic.{_≢_}
-use mathlib.Core.Option.{Option, none, some}
+use mathlib.Core.Option.{none, some}
 use Prim.Native.Nat.{ℕ, zero, suc, _≤_, _<_}
-use native.Mathlib.Decide.{ℕ-discrete, decLt}
+use native.Mathlib.Decide.{ℕ-discrete}
 use native.Mathlib.Omega.{arith}
 use lib.ListN.{length}
 use Rattle.meaning.specs.Basics.{pick}
-use Rattle.meaning.specs.TreeQuery.{Lab, node, Table, at, Live, Root, Tree}
+use Rattle.meaning.specs.TreeQuery.{Table, Live, Root, Tree}
 use Rattle.theory.proofs.Look.{live-lt}
 
 -- a function that takes each value up to K on the n numbers below n: K is below n
