@@ -1,6 +1,6 @@
 -- Two tables side by side: where the rows stand, and that the layings of both together are the pairs of layings.
 use mathlib.Core.Path.{_≡_, refl, sym, ap, subst, _∙_, fun-ext}
-use mathlib.Core.Logic.{_↔_}
+use mathlib.Core.Logic.{_↔_, by-cases}
 use mathlib.Core.Option.{Option, none, some}
 use mathlib.Core.List.{map}
 use Prim.Native.Nat.{ℕ, _+_, _-_, _<_}
@@ -9,9 +9,9 @@ use native.Mathlib.Omega.{arith}
 use lib.ListN.{length, length-map, length-append}
 use Rattle.meaning.specs.Basics.{pick, mapped}
 use Rattle.meaning.specs.Document.{Doc}
-use Rattle.meaning.specs.TreeQuery.{Lab, Row, node, Table, at, Live, Linked, RowKept, Laying}
+use Rattle.meaning.specs.TreeQuery.{Lab, Row, node, Table, at, Live, RowKept, Laying}
 use Rattle.meaning.specs.Gluing.{relink, shift, join}
-use Rattle.theory.proofs.Look.{never, look-lt, look-left, look-right, look-map, live-lt}
+use Rattle.theory.proofs.Look.{never, pick-yes, pick-no, look-lt, look-left, look-right, look-map, live-lt}
 use Rattle.theory.proofs.Gluing.{Closed}
 
 pub length-join : (A B : Table) → length (join A B) ≡ length A + length B
@@ -35,25 +35,21 @@ pub data Side (A : Table) (i : ℕ) : Type 0 where
   right : (j : ℕ) → i ≡ length A + j → Side A i
 
 pub sideOf : (A : Table) (i : ℕ) → Side A i
-sideOf A i = go (decLt i (length A))
-  where
-    go : Dec (i < length A) → Side A i
-    go (yes lt) = left lt
-    go (no ge) = right (i - length A) (omega arith)
+sideOf A i = by-cases (decLt i (length A)) left (λ ge. right (i - length A) (omega arith))
 
-pub data RowOf (A B : Table) (i : ℕ) (u : Option ℕ) (l : Lab) : Type 0 where
-  first : i < length A → at A i ≡ some (node u l) → RowOf A B i u l
-  second : (j : ℕ) (v : Option ℕ) → i ≡ length A + j → u ≡ mapped (shift A) v → at B j ≡ some (node v l) → RowOf A B i u l
+pub data JoinRow (A B : Table) (i : ℕ) (u : Option ℕ) (l : Lab) : Type 0 where
+  inFirst : i < length A → at A i ≡ some (node u l) → JoinRow A B i u l
+  inSecond : (j : ℕ) (v : Option ℕ) → i ≡ length A + j → u ≡ mapped (shift A) v → at B j ≡ some (node v l) → JoinRow A B i u l
 
-pub rowOf : (A B : Table) (i : ℕ) (u : Option ℕ) (l : Lab) → at (join A B) i ≡ some (node u l) → RowOf A B i u l
-rowOf A B i u l e = go (sideOf A i)
+pub joinRow : (A B : Table) (i : ℕ) (u : Option ℕ) (l : Lab) → at (join A B) i ≡ some (node u l) → JoinRow A B i u l
+joinRow A B i u l e = go (sideOf A i)
   where
-    row : (j : ℕ) → i ≡ length A + j → (o : Option Row) → at B j ≡ o → mapped (relink (shift A)) o ≡ some (node u l) → RowOf A B i u l
+    row : (j : ℕ) → i ≡ length A + j → (o : Option Row) → at B j ≡ o → mapped (relink (shift A)) o ≡ some (node u l) → JoinRow A B i u l
     row j ei none e₁ e₂ = never cc
-    row j ei (some (node v k)) e₁ e₂ = second j v ei (let z : u ≡ mapped (shift A) v = cc in z) (let z : at B j ≡ some (node v l) = cc in z)
+    row j ei (some (node v k)) e₁ e₂ = inSecond j v ei (let z : u ≡ mapped (shift A) v = cc in z) (let z : at B j ≡ some (node v l) = cc in z)
 
-    go : Side A i → RowOf A B i u l
-    go (left lt) = first lt (sym (at-left A B i lt) ∙ e)
+    go : Side A i → JoinRow A B i u l
+    go (left lt) = inFirst lt (sym (at-left A B i lt) ∙ e)
     go (right j ei) = row j ei (at B j) refl (sym (at-right A B j) ∙ ap (at (join A B)) (sym ei) ∙ e)
 
 -- two functions, one on each side
@@ -61,18 +57,10 @@ abbrev pub fork : Table → (ℕ → ℕ) → (ℕ → ℕ) → ℕ → ℕ
 fork A f g i = pick (decLt i (length A)) (f i) (g (i - length A))
 
 pub fork-left : (A : Table) (f g : ℕ → ℕ) (i : ℕ) → i < length A → fork A f g i ≡ f i
-fork-left A f g i lt = go (decLt i (length A))
-  where
-    go : (d : Dec (i < length A)) → pick d (f i) (g (i - length A)) ≡ f i
-    go (yes _) = refl
-    go (no ge) = absurd (ge lt)
+fork-left A f g i lt = pick-yes (decLt i (length A)) (f i) (g (i - length A)) lt
 
 pub fork-right : (A : Table) (f g : ℕ → ℕ) (j : ℕ) → fork A f g (length A + j) ≡ g j
-fork-right A f g j = go (decLt (length A + j) (length A))
-  where
-    go : (d : Dec (length A + j < length A)) → pick d (f (length A + j)) (g ((length A + j) - length A)) ≡ g j
-    go (yes lt) = absurd (omega arith)
-    go (no _) = ap g (omega arith)
+fork-right A f g j = pick-no (decLt (length A + j) (length A)) (f (length A + j)) (g ((length A + j) - length A)) (λ lt. omega arith) ∙ ap g (omega arith)
 
 -- ------------------------------------------------------------------ layings
 module _ (D : Doc) (A B : Table) where

@@ -4,6 +4,9 @@ pub mod Document
 pub mod Promise
 pub mod Pair
 pub mod Look
+pub mod Labels
+pub mod Levels
+pub mod Merge
 pub mod Gluing
 pub mod Depth
 pub mod Join

@@ -1,19 +1,28 @@
 -- Laws of `look`, entry i of a list: where it is there, and what it is in a list that was set, mapped or appended to.
 -- A table has no other rows than its entries, so a row is there exactly below the length.
-use mathlib.Core.Path.{_≡_, refl, ap, sym, _∙_}
+use mathlib.Core.Path.{_≡_, refl, ap}
 use mathlib.Core.Logic.{_≢_}
-use mathlib.Core.Option.{Option, none, some}
+use mathlib.Core.Option.{some}
 use mathlib.Core.List.{List, [], _∷_, _++_, map}
 use Prim.Native.Nat.{ℕ, zero, suc, _+_, _<_}
 use native.Mathlib.Nat.{zero-add, suc-add}
 use native.Mathlib.Omega.{arith}
 use lib.ListN.{length, set}
-use Rattle.meaning.specs.Basics.{look, mapped}
-use Rattle.meaning.specs.TreeQuery.{Lab, Row, node, Table, at, Live}
+use Rattle.meaning.specs.Basics.{pick, look, mapped}
+use Rattle.meaning.specs.TreeQuery.{Row, node, Table, at, Live}
 
 -- two unequal constructors are never equal: `never cc`, from the equations at hand
 pub never {ℓ} : {A : Type ℓ} → _≡_ {A = ℕ} 0 1 → A
 never e = absurd (omega arith)
+
+-- a decision that is known chooses
+pub pick-yes {κ} : {P : Type 0} {A : Type κ} (d : Dec P) (a b : A) → P → pick d a b ≡ a
+pick-yes (yes _) a b p = refl
+pick-yes (no np) a b p = absurd (np p)
+
+pub pick-no {κ} : {P : Type 0} {A : Type κ} (d : Dec P) (a b : A) → ¬ P → pick d a b ≡ b
+pick-no (yes p) a b np = absurd (np p)
+pick-no (no _) a b np = refl
 
 module _ {A : Type 0} where
   pub look-lt : (xs : List A) (i : ℕ) {a : A} → look xs i ≡ some a → i < length xs

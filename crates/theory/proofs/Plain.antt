@@ -1,38 +1,39 @@
--- The plain tree query of an expression: it is a tree query and selects the pairs of the expression, it has at most one node more than the
--- expression has steps, and its labels are labels of the expression. All three by one induction over the expression.
+-- The plain tree query of an expression (paper, figures 9 and 10): it is a tree query and selects the pairs of the expression, it has at most
+-- one node more than the expression has steps, and its labels are labels of the expression. One induction over the expression shows all three.
 use mathlib.Core.Path.{_≡_, refl, sym, ap, _∙_}
 use mathlib.Core.Logic.{_↔_, _⊎_, inl, inr}
 use mathlib.Core.Option.{Option, none, some}
 use mathlib.Core.List.{[], _∷_}
-use Prim.Native.Nat.{ℕ, zero, suc, _+_, _≤_, _<_}
+use Prim.Native.Nat.{ℕ, zero, suc, _+_, _≤_}
 use native.Mathlib.Omega.{arith}
 use lib.ListN.{length}
 use Rattle.meaning.specs.Basics.{mapped}
 use Rattle.meaning.specs.Document.{Doc, In, Child, labelOf}
 use Rattle.meaning.specs.Expression.{Expr, empty, self, child, parent, label, comp, inter, proj1, proj2, inv, pairs, steps}
-use Rattle.meaning.specs.TreeQuery.{Lab, any, lab, Row, node, Table, at, Query, nodes, Live, Root, Linked, Tree, TreeQuery, Fits, Laying, Selects}
-use Rattle.meaning.specs.Gluing.{Glued, join, across, within, placed, composed, thenWithin, intersected, two, oneNode, twoNodes, bothAtS, bothAtD, exchanged, plain}
-use Rattle.theory.proofs.Look.{never, live-lt, lt-live}
-use Rattle.theory.proofs.Gluing.{Quotient, live-glued, laying-up, laying-down, still-glued}
-use Rattle.theory.proofs.Apart.{Bears, bears-glued, Across, AcrossO, across-glued, Within, within-glued}
+use Rattle.meaning.specs.TreeQuery.{Lab, any, lab, node, Table, at, Query, nodes, Root, Linked, TreeQuery, Fits, Laying, Selects}
+use Rattle.meaning.specs.Gluing.{Glued, across, within, placed, composed, thenWithin, intersected, two, oneNode, twoNodes, bothAtS, bothAtD, exchanged, plain}
+use Rattle.theory.proofs.Look.{never}
+use Rattle.theory.proofs.Labels.{LabelsIn}
+use Rattle.theory.proofs.Gluing.{live-glued, laying-up, laying-down, still-glued}
+use Rattle.theory.proofs.Apart.{Bears, bears-glued, AcrossO, across-glued, Within, within-glued}
 
 -- ------------------------------------------------------------------ two operands glued
 -- R is a tree query with the meaning S; it has fewer nodes than P and Q together, and no other labels
-pub record Glues (S : Doc → ℕ → ℕ → Type 0) (P Q R : Query) : Type 0 where
-  pub valid : TreeQuery R
-  pub means : (D : Doc) (m n : ℕ) → S D m n ↔ Selects R D m n
-  pub short : suc (nodes R) ≤ nodes P + nodes Q
-  pub labels : (c : ℕ) → Bears (R .rows) c → Bears (P .rows) c ⊎ Bears (Q .rows) c
+record Glues (S : Doc → ℕ → ℕ → Type 0) (P Q R : Query) : Type 0 where
+  valid : TreeQuery R
+  means : (D : Doc) (m n : ℕ) → S D m n ↔ Selects R D m n
+  short : suc (nodes R) ≤ nodes P + nodes Q
+  labels : (c : ℕ) → Bears (R .rows) c → Bears (P .rows) c ⊎ Bears (Q .rows) c
 
-abbrev pub GluesO : (Doc → ℕ → ℕ → Type 0) → Query → Query → Option Query → Type 0
+abbrev GluesO : (Doc → ℕ → ℕ → Type 0) → Query → Query → Option Query → Type 0
 GluesO S P Q none = (D : Doc) (m n : ℕ) → S D m n → ⊥
 GluesO S P Q (some R) = Glues S P Q R
 
 -- the meanings of composition and of intersection
-abbrev pub Comp : Query → Query → Doc → ℕ → ℕ → Type 0
+abbrev Comp : Query → Query → Doc → ℕ → ℕ → Type 0
 Comp P Q D m n = (k : ℕ) × Selects P D m k × Selects Q D k n
 
-abbrev pub Both : Query → Query → Doc → ℕ → ℕ → Type 0
+abbrev Both : Query → Query → Doc → ℕ → ℕ → Type 0
 Both P Q D m n = Selects P D m n × Selects Q D m n
 
 module _ (P Q : Query) (vp : TreeQuery P) (vq : TreeQuery Q) where
@@ -43,7 +44,7 @@ module _ (P Q : Query) (vp : TreeQuery P) (vq : TreeQuery Q) where
   B = Q .rows
 
   -- "Composition glues the first's d to the second's s"
-  pub composed-glues : GluesO (Comp P Q) P Q (composed P Q)
+  composed-glues : GluesO (Comp P Q) P Q (composed P Q)
   composed-glues = go (across A (P .d) B (Q .s)) (across-glued (vp .tree) (vq .tree) (P .d) (Q .s) (vp .dLive) (vq .sLive))
     where
       go : (o : Option Glued) → AcrossO A B (P .d) (Q .s) o → GluesO (Comp P Q) P Q (placed o (P .s) (length A + Q .d))
@@ -62,7 +63,7 @@ module _ (P Q : Query) (vp : TreeQuery P) (vq : TreeQuery Q) where
       }
 
   -- "intersection glues s to s, then d to d in that result"
-  pub intersected-glues : GluesO (Both P Q) P Q (intersected P Q)
+  intersected-glues : GluesO (Both P Q) P Q (intersected P Q)
   intersected-glues = go (across A (P .s) B (Q .s)) (across-glued (vp .tree) (vq .tree) (P .s) (Q .s) (vp .sLive) (vq .sLive))
     where
       go : (o : Option Glued) → AcrossO A B (P .s) (Q .s) o → GluesO (Both P Q) P Q (thenWithin o (P .s) (P .d) (length A + Q .d))
@@ -151,11 +152,11 @@ one-selects l D m n =
 abbrev edge : Table
 edge = node none any ∷ node (some 0) any ∷ []
 
-two-valid : (s d : ℕ) → s < 2 → d < 2 → TreeQuery (twoNodes s d)
-two-valid s d ls ld = record {
+two-valid : TreeQuery (twoNodes 0 1)
+two-valid = record {
   tree = record { lev = λ i. i; linked = linked; top = 0; topLev = refl; single = single };
-  sLive = lt-live edge s ls;
-  dLive = lt-live edge d ld;
+  sLive = (none, any, refl);
+  dLive = (some 0, any, refl);
 }
   where
     linked : Linked edge (λ i. i)
@@ -189,28 +190,19 @@ abbrev pub AtMost : ℕ → Option Query → Type 0
 AtMost n none = Unit {0}
 AtMost n (some Q) = nodes Q ≤ n
 
--- each label of the expression, and of the rows, has the property P
-abbrev pub LabelsIn : (ℕ → Type 0) → Expr → Type 0
-LabelsIn P empty = Unit {0}
-LabelsIn P self = Unit {0}
-LabelsIn P child = Unit {0}
-LabelsIn P parent = Unit {0}
-LabelsIn P (label l) = P l
-LabelsIn P (comp e f) = LabelsIn P e × LabelsIn P f
-LabelsIn P (inter e f) = LabelsIn P e × LabelsIn P f
-LabelsIn P (proj1 e) = LabelsIn P e
-LabelsIn P (proj2 e) = LabelsIn P e
-LabelsIn P (inv e) = LabelsIn P e
-
+-- each label of the rows has the property P
 abbrev pub RowsIn : (ℕ → Type 0) → Option Query → Type 0
 RowsIn P none = Unit {0}
 RowsIn P (some Q) = (i : ℕ) (u : Option ℕ) (l : ℕ) → at (Q .rows) i ≡ some (node u (lab l)) → P l
 
-record Built (P : ℕ → Type 0) (e : Expr) (Q : Query) : Type 0 where
-  valid : TreeQuery Q
-  means : (D : Doc) (m n : ℕ) → pairs e D m n ↔ Selects Q D m n
-  few : nodes Q ≤ suc (steps e)
-  labels : LabelsIn P e → RowsIn P (some Q)
+-- what is proved of e and its tree query Q together
+abbrev Built : (ℕ → Type 0) → Expr → Query → Type 0
+Built P e Q = record {
+  valid : TreeQuery Q;
+  means : (D : Doc) (m n : ℕ) → pairs e D m n ↔ Selects Q D m n;
+  few : nodes Q ≤ suc (steps e);
+  labels : LabelsIn P e → RowsIn P (some Q);
+}
 
 abbrev BuiltO : (ℕ → Type 0) → Expr → Option Query → Type 0
 BuiltO P e none = (D : Doc) (m n : ℕ) → pairs e D m n → ⊥
@@ -221,13 +213,14 @@ module _ (P : ℕ → Type 0) where
   one-labels l f zero u c e = f c cc
   one-labels l f (suc i) u c e = never cc
 
-  two-labels : (s d : ℕ) → RowsIn P (some (twoNodes s d))
-  two-labels s d zero u c e = never cc
-  two-labels s d (suc zero) u c e = never cc
-  two-labels s d (suc (suc i)) u c e = never cc
+  two-labels : RowsIn P (some (twoNodes 0 1))
+  two-labels zero u c e = never cc
+  two-labels (suc zero) u c e = never cc
+  two-labels (suc (suc i)) u c e = never cc
 
   -- two operands that are built, glued
-  glues-built : (e e₁ e₂ : Expr) (S : Doc → ℕ → ℕ → Type 0) {Q₁ Q₂ : Query} → Built P e₁ Q₁ → Built P e₂ Q₂ → steps e ≡ steps e₁ + steps e₂ → (LabelsIn P e → LabelsIn P e₁ × LabelsIn P e₂)
+  glues-built : (e e₁ e₂ : Expr) (S : Doc → ℕ → ℕ → Type 0) {Q₁ Q₂ : Query} → Built P e₁ Q₁ → Built P e₂ Q₂
+      → steps e ≡ steps e₁ + steps e₂ → (LabelsIn P e → LabelsIn P e₁ × LabelsIn P e₂)
       → ((D : Doc) (m n : ℕ) → pairs e D m n ↔ S D m n) → (o : Option Query) → GluesO S Q₁ Q₂ o → BuiltO P e o
   glues-built e e₁ e₂ S w₁ w₂ es split eq none g = λ D m n a. g D m n ((eq D m n) .0 a)
   glues-built e e₁ e₂ S {Q₁} {Q₂} w₁ w₂ es split eq (some R) g = record {
@@ -241,6 +234,51 @@ module _ (P : ℕ → Type 0) where
       side p l (inl (i, u, e)) = w₁ .labels ((split p) .0) i u l e
       side p l (inr (i, u, e)) = w₂ .labels ((split p) .1) i u l e
 
+  -- "Projections move one mark to the other's node, inverse exchanges them."
+  proj1-built : (e : Expr) (o : Option Query) → BuiltO P e o → BuiltO P (proj1 e) (mapped bothAtS o)
+  proj1-built e none w = λ D m n (q, ka). w D m (ka .0) (ka .1)
+  proj1-built e (some Q) w = record {
+    valid = record { tree = w .valid .tree; sLive = w .valid .sLive; dLive = w .valid .sLive };
+    means = λ D m n. (
+      λ (q, ka). let (h, lay, hs, hd) = (w .means D m (ka .0)) .0 (ka .1) in (h, lay, hs, hs ∙ q),
+      λ (h, lay, hs, hd). (sym hs ∙ hd, (h (Q .d), (w .means D m (h (Q .d))) .1 (h, lay, hs, refl))),
+    );
+    few = w .few;
+    labels = w .labels;
+  }
+
+  inv-built : (e : Expr) (o : Option Query) → BuiltO P e o → BuiltO P (inv e) (mapped exchanged o)
+  inv-built e none w = λ D m n a. w D n m a
+  inv-built e (some Q) w = record {
+    valid = record { tree = w .valid .tree; sLive = w .valid .dLive; dLive = w .valid .sLive };
+    means = λ D m n.
+        (λ a. let (h, lay, hs, hd) = (w .means D n m) .0 a in (h, lay, hd, hs), λ (h, lay, hs, hd). (w .means D n m) .1 (h, lay, hd, hs));
+    few = w .few;
+    labels = w .labels;
+  }
+
+  -- a second projection is the first of the inverse
+  proj2-built : (e : Expr) (o : Option Query) → BuiltO P e o → BuiltO P (proj2 e) (mapped bothAtD o)
+  proj2-built e none w = proj1-built (inv e) none (inv-built e none w)
+  proj2-built e (some Q) w = proj1-built (inv e) (some (exchanged Q)) (inv-built e (some Q) w)
+
+  comp-built : (e f : Expr) (p q : Option Query) → BuiltO P e p → BuiltO P f q → BuiltO P (comp e f) (two composed p q)
+  comp-built e f none q w v = λ D m n (k, a, b). w D m k a
+  comp-built e f (some Q) none w v = λ D m n (k, a, b). v D k n b
+  comp-built e f (some Q) (some R) w v = glues-built (comp e f) e f (Comp Q R) w v refl (λ p. p)
+      (λ D m n. (λ (k, a, b). (k, (w .means D m k) .0 a, (v .means D k n) .0 b), λ (k, a, b). (k, (w .means D m k) .1 a, (v .means D k n) .1 b)))
+      (composed Q R) (composed-glues Q R (w .valid) (v .valid))
+
+  inter-built : (e f : Expr) (p q : Option Query) → BuiltO P e p → BuiltO P f q → BuiltO P (inter e f) (two intersected p q)
+  inter-built e f none q w v = λ D m n (a, b). w D m n a
+  inter-built e f (some Q) none w v = λ D m n (a, b). v D m n b
+  inter-built e f (some Q) (some R) w v = glues-built (inter e f) e f (Both Q R) w v refl (λ p. p)
+      (λ D m n. (λ (a, b). ((w .means D m n) .0 a, (v .means D m n) .0 b), λ (a, b). ((w .means D m n) .1 a, (v .means D m n) .1 b)))
+      (intersected Q R) (intersected-glues Q R (w .valid) (v .valid))
+
+  child-built : BuiltO P child (plain child)
+  child-built = record { valid = two-valid; means = two-selects; few = omega arith; labels = λ _. two-labels }
+
   plain-built : (e : Expr) → BuiltO P e (plain e)
   plain-built empty = λ D m n a. a
   plain-built self = record {
@@ -249,67 +287,19 @@ module _ (P : ℕ → Type 0) where
     few = omega arith;
     labels = λ _. one-labels any (λ c e. never cc);
   }
-  plain-built (label l) = record { valid = one-valid (lab l); means = one-selects (lab l); few = omega arith; labels = λ p. one-labels (lab l) (λ c e. rw (let z : l ≡ c = cc in z) at p) }
-  plain-built child = record { valid = two-valid 0 1 (omega arith) (omega arith); means = two-selects; few = omega arith; labels = λ _. two-labels 0 1 }
-  plain-built parent = record {
-    valid = two-valid 1 0 (omega arith) (omega arith);
-    means = λ D m n. (λ c. let (h, lay, hs, hd) = (two-selects D n m) .0 c in (h, lay, hd, hs), λ (h, lay, hs, hd). (two-selects D n m) .1 (h, lay, hd, hs));
+  plain-built (label l) = record {
+    valid = one-valid (lab l);
+    means = one-selects (lab l);
     few = omega arith;
-    labels = λ _. two-labels 1 0;
+    labels = λ p. one-labels (lab l) (λ c e. rw (let z : l ≡ c = cc in z) at p);
   }
-  plain-built (comp e f) = go (plain e) (plain f) (plain-built e) (plain-built f)
-    where
-      go : (p q : Option Query) → BuiltO P e p → BuiltO P f q → BuiltO P (comp e f) (two composed p q)
-      go none q w v = λ D m n (k, a, b). w D m k a
-      go (some Q) none w v = λ D m n (k, a, b). v D k n b
-      go (some Q) (some R) w v = glues-built (comp e f) e f (Comp Q R) w v refl (λ p. p)
-          (λ D m n. (λ (k, a, b). (k, (w .means D m k) .0 a, (v .means D k n) .0 b), λ (k, a, b). (k, (w .means D m k) .1 a, (v .means D k n) .1 b)))
-          (composed Q R) (composed-glues Q R (w .valid) (v .valid))
-  plain-built (inter e f) = go (plain e) (plain f) (plain-built e) (plain-built f)
-    where
-      go : (p q : Option Query) → BuiltO P e p → BuiltO P f q → BuiltO P (inter e f) (two intersected p q)
-      go none q w v = λ D m n (a, b). w D m n a
-      go (some Q) none w v = λ D m n (a, b). v D m n b
-      go (some Q) (some R) w v = glues-built (inter e f) e f (Both Q R) w v refl (λ p. p)
-          (λ D m n. (λ (a, b). ((w .means D m n) .0 a, (v .means D m n) .0 b), λ (a, b). ((w .means D m n) .1 a, (v .means D m n) .1 b)))
-          (intersected Q R) (intersected-glues Q R (w .valid) (v .valid))
-  plain-built (proj1 e) = go (plain e) (plain-built e)
-    where
-      go : (p : Option Query) → BuiltO P e p → BuiltO P (proj1 e) (mapped bothAtS p)
-      go none w = λ D m n (q, (k, a)). w D m k a
-      go (some Q) w = record {
-        valid = record { tree = w .valid .tree; sLive = w .valid .sLive; dLive = w .valid .sLive };
-        means = λ D m n. (
-          λ (q, ka). let (h, lay, hs, hd) = (w .means D m (ka .0)) .0 (ka .1) in (h, lay, hs, hs ∙ q),
-          λ (h, lay, hs, hd). (sym hs ∙ hd, (h (Q .d), (w .means D m (h (Q .d))) .1 (h, lay, hs, refl))),
-        );
-        few = w .few;
-        labels = w .labels;
-      }
-  plain-built (proj2 e) = go (plain e) (plain-built e)
-    where
-      go : (p : Option Query) → BuiltO P e p → BuiltO P (proj2 e) (mapped bothAtD p)
-      go none w = λ D m n (q, ka). w D (ka .0) m (ka .1)
-      go (some Q) w = record {
-        valid = record { tree = w .valid .tree; sLive = w .valid .dLive; dLive = w .valid .dLive };
-        means = λ D m n. (
-          λ (q, ka). let (h, lay, hs, hd) = (w .means D (ka .0) m) .0 (ka .1) in (h, lay, hd, hd ∙ q),
-          λ (h, lay, hs, hd). (sym hs ∙ hd, (h (Q .s), (w .means D (h (Q .s)) m) .1 (h, lay, refl, hs))),
-        );
-        few = w .few;
-        labels = w .labels;
-      }
-  plain-built (inv e) = go (plain e) (plain-built e)
-    where
-      go : (p : Option Query) → BuiltO P e p → BuiltO P (inv e) (mapped exchanged p)
-      go none w = λ D m n a. w D n m a
-      go (some Q) w = record {
-        valid = record { tree = w .valid .tree; sLive = w .valid .dLive; dLive = w .valid .sLive };
-        means = λ D m n.
-            (λ a. let (h, lay, hs, hd) = (w .means D n m) .0 a in (h, lay, hd, hs), λ (h, lay, hs, hd). (w .means D n m) .1 (h, lay, hd, hs));
-        few = w .few;
-        labels = w .labels;
-      }
+  plain-built child = child-built
+  plain-built parent = inv-built child (plain child) child-built
+  plain-built (comp e f) = comp-built e f (plain e) (plain f) (plain-built e) (plain-built f)
+  plain-built (inter e f) = inter-built e f (plain e) (plain f) (plain-built e) (plain-built f)
+  plain-built (proj1 e) = proj1-built e (plain e) (plain-built e)
+  plain-built (proj2 e) = proj2-built e (plain e) (plain-built e)
+  plain-built (inv e) = inv-built e (plain e) (plain-built e)
 
 plain-facts : (P : ℕ → Type 0) (e : Expr) → Means (pairs e) (plain e) × AtMost (suc (steps e)) (plain e) × (LabelsIn P e → RowsIn P (plain e))
 plain-facts P e = go (plain e) (plain-built P e)
