@@ -12,7 +12,6 @@ pub mod Depth
 pub mod Join
 pub mod Apart
 pub mod Plain
-pub mod Levels
 pub mod Children
 pub mod Back
 pub mod Bridge
@@ -22,7 +21,6 @@ pub mod Folding
 pub mod Removal
 pub mod Minimal
 pub mod Unique
-pub mod Labels
 pub mod Order
 pub mod ByteOrder
 pub mod Numbers
