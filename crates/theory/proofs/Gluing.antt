@@ -15,17 +15,21 @@ use Rattle.theory.proofs.Look.{never, look-lt, live-lt}
 use Rattle.theory.proofs.Merge.{meet-none, back, moved-same, moved-back, length-merged, Merge, Congruent, Kept, EdgeOf, LabelOf, seen, linked-along}
 use Rattle.theory.proofs.Merge.{merge-still, live-before, edge-merged, congruent-merged, label-merged, kept-merged, live-merged}
 
--- g is T with x and y made one: each row is kept, each edge and label is brought from T, and no function sees the gluing that takes x and y
--- to one value and the parents of rows with one value to one value
+-- g is T with x and y made one, and no other rows but for their sake
 pub record Quotient (T : Table) (x y : ℕ) (g : Glued) : Type 0 where
+  -- each row of g has an old row
   pub from : ℕ → ℕ
   pub onto : (i : ℕ) → g .to (from i) ≡ i
-  pub same : g .to x ≡ g .to y
   pub old : (i : ℕ) → Live (g .rows) i → Live T (from i)
+  -- x and y are one, and every row is kept with its label and its edge
+  pub same : g .to x ≡ g .to y
   pub kept : (j : ℕ) (u : Option ℕ) (l : Lab) → at T j ≡ some (node u l) → Kept (λ p. p) (g .to) (g .rows) (g .to j) u l
+  -- every edge and every label is brought from T
   pub edges : (i p : ℕ) (l : Lab) → at (g .rows) i ≡ some (node (some p) l) → EdgeOf T (g .to) i p
   pub labels : (i : ℕ) (u : Option ℕ) (c : ℕ) → at (g .rows) i ≡ some (node u (lab c)) → LabelOf T (g .to) i c
+  -- rows that became one have one value under each function that gives one value to x and y, and to the parents of rows with one value
   pub least : (h : ℕ → ℕ) → Congruent T h → h x ≡ h y → (j : ℕ) → h (from (g .to j)) ≡ h j
+  -- a row is lost unless x is y
   pub fewer : length (g .rows) ≤ length T
   pub less : x ≢ y → suc (length (g .rows)) ≤ length T
 

@@ -1,5 +1,5 @@
--- Laws of `look`, entry i of a list: where it is there, and what it is in a list that was set, mapped or appended to.
--- A table has no other rows than its entries, so a row is there exactly below the length.
+-- Small laws that the other files use: contradictions, known decisions, and `look`, entry i of a list: where it is there, and what it is in a
+-- list that was set, mapped or appended to. A table has no other rows than its entries, so a row is there exactly below the length.
 use mathlib.Core.Path.{_≡_, refl, ap}
 use mathlib.Core.Logic.{_≢_}
 use mathlib.Core.Option.{some}

@@ -111,13 +111,13 @@ pub record Merge (T : Table) (x y : ℕ) (u v : Option ℕ) (l k : Lab) : Type 0
 abbrev pub Congruent : Table → (ℕ → ℕ) → Type 0
 Congruent T h = (i j p q : ℕ) (l k : Lab) → at T i ≡ some (node (some p) l) → at T j ≡ some (node (some q) k) → h i ≡ h j → h p ≡ h q
 
--- row i of G has a label that fits no more than l, and, where w is a parent p, a parent that t takes where s takes p
-pub record Kept (t s : ℕ → ℕ) (G : Table) (i : ℕ) (w : Option ℕ) (l : Lab) : Type 0 where
+-- row i of G keeps a row with parent u and label l: its label fits no more than l does, and if u is some p, t takes its parent where s takes p
+pub record Kept (t s : ℕ → ℕ) (G : Table) (i : ℕ) (u : Option ℕ) (l : Lab) : Type 0 where
   pub up : Option ℕ
   pub bears : Lab
   pub row : at G i ≡ some (node up bears)
   pub fits : (a : ℕ) → Fits bears a → Fits l a
-  pub edge : (p : ℕ) → w ≡ some p → (q : ℕ) × (up ≡ some q) × (t q ≡ s p)
+  pub edge : (p : ℕ) → u ≡ some p → (q : ℕ) × (up ≡ some q) × (t q ≡ s p)
 
 -- an edge from row i to p, and a label c of row i, that t brings from T
 pub record EdgeOf (T : Table) (t : ℕ → ℕ) (i p : ℕ) : Type 0 where
