@@ -26,7 +26,8 @@ put-append d at (x ∷ xs) ys =
     let z : at + suc (length xs) ≡ suc at + length xs = omega arith in rw z (put-append (set d at x) (suc at) xs ys)
 
 -- ys written behind xs, into the room that xs were written into
-pub put-then : (d d₁ : List ℕ) (at at₁ : ℕ) (xs ys : List ℕ) → d₁ ≡ put d at xs → at₁ ≡ at + length xs → put d₁ at₁ ys ≡ put d at (xs ++ ys)
+pub put-then : (d d₁ : List ℕ) (at at₁ : ℕ) (xs ys : List ℕ) → d₁ ≡ put d at xs → at₁ ≡ at + length xs
+    → put d₁ at₁ ys ≡ put d at (xs ++ ys)
 put-then d d₁ at at₁ xs ys e l = rw (e, l) (sym (put-append d at xs ys))
 
 -- "the first n bytes of the room are the answer and the later ones keep their values"
