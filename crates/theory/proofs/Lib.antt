@@ -38,6 +38,7 @@ pub mod Operands
 pub mod Limits
 pub mod Reread
 pub mod Accepted
+pub mod Refused
 pub mod Same
 pub mod Least
 pub mod Again
