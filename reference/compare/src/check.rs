@@ -8,6 +8,7 @@ use crate::generator::Generator;
 use crate::library::{self, Library, Writer};
 use crate::question::{question, Question};
 use crate::stand_in;
+use crate::tables::MOST_ROWS;
 use reference::LONGEST_NORMAL_FORM;
 
 type Expected = fn(&[u8], &mut [u8]) -> u64;
@@ -15,6 +16,10 @@ type Expected = fn(&[u8], &mut [u8]) -> u64;
 /// Words so long get two rooms instead of all: the second implementation
 /// works each answer out anew.
 const LONG_WORD: usize = 64;
+
+/// Rows times bytes of the word: the second implementation works on whole
+/// relations, and dense ones on large tables take it very long.
+const WORK: usize = 12_000;
 
 /// One word in the comparison.
 pub struct Check<'a> {
@@ -90,8 +95,16 @@ impl Check<'_> {
         }
     }
 
+    fn most_rows(&mut self) -> usize {
+        match self.word.len() {
+            ..100 if self.generator.one_in(60) => MOST_ROWS,
+            length => (WORK / (length + 1)).clamp(4, MOST_ROWS),
+        }
+    }
+
     fn question(&mut self) -> Result<(), Box<Difference>> {
-        let question = question(self.generator, self.word);
+        let most_rows = self.most_rows();
+        let question = question(self.generator, self.word, most_rows);
         self.counts.table(question.kind);
         let pair = (question.m, question.n);
         let buffer = Buffer::patterned(question.workspace, self.generator);

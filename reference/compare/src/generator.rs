@@ -11,19 +11,23 @@ const BORDER_LABELS: [u32; 24] = [
 ];
 pub const LABELS: usize = 65_536;
 
-pub struct Generator(u64);
+pub struct Generator {
+    state: u64,
+    /// How often each kind of word has had its turn before.
+    pub turn: usize,
+}
 
 impl Generator {
     /// The generator of the word with this index.
-    pub fn of(seed: u64, index: u64) -> Generator {
-        let mut own = Generator(seed);
-        let seed = own.next();
-        Generator(seed ^ index.wrapping_mul(STEP).rotate_left(17))
+    pub fn of(seed: u64, index: u64, turn: usize) -> Generator {
+        let mut own = Generator { state: seed, turn };
+        own.state = own.next() ^ index.wrapping_mul(STEP).rotate_left(17);
+        own
     }
 
     pub fn next(&mut self) -> u64 {
-        self.0 = self.0.wrapping_add(STEP);
-        let mut mixed = self.0;
+        self.state = self.state.wrapping_add(STEP);
+        let mut mixed = self.state;
         mixed = (mixed ^ mixed >> 30).wrapping_mul(0xbf58_476d_1ce4_e5b9);
         mixed = (mixed ^ mixed >> 27).wrapping_mul(0x94d0_49bb_1331_11eb);
         mixed ^ mixed >> 31

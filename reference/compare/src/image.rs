@@ -3,11 +3,13 @@
 use crate::signs::{read_number, write_number};
 
 /// A node of an image, in image order.
-#[derive(Clone, Copy)]
+#[derive(Clone, Copy, Debug)]
 pub struct Record {
     /// 0 for a wildcard, else L+1.
     pub label_code: u32,
+    /// 0 none, 1 s, 2 d, 3 both.
     pub mark: u32,
+    /// How many children it has.
     pub children: u32,
     /// The parent's number; 0 for the top.
     pub parent: usize,
@@ -83,7 +85,7 @@ mod tests {
         let length = reference::minimal_image(&word, &mut room).unwrap();
         assert_eq!(write(&records), room[..length]);
         let parents: Vec<usize> = records.iter().map(|record| record.parent).collect();
-        assert_eq!(parents, [0, 0, 0, 2]);
-        assert_eq!((marked(&records, 1), marked(&records, 2)), (1, 3));
+        assert_eq!(parents, [0, 0, 1, 0]);
+        assert_eq!((marked(&records, 1), marked(&records, 2)), (3, 2));
     }
 }

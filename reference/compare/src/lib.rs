@@ -4,19 +4,19 @@
 
 mod buffer;
 mod check;
+pub mod corpus;
 mod counts;
 mod difference;
 mod generator;
-mod image;
+pub mod image;
+pub mod library;
+pub mod options;
 mod question;
 mod run;
 mod signs;
+pub mod stand_in;
 mod tables;
 mod words;
-
-pub mod library;
-pub mod options;
-pub mod stand_in;
 
 pub use counts::Counts;
 pub use difference::Difference;

@@ -4,10 +4,6 @@ use crate::generator::Generator;
 use crate::tables::{Kind, Maker, Table, BAD, GOOD, MOST_ROWS};
 use reference::MATCH_TABLE_BYTES;
 
-/// Rows times bytes of the word: the second implementation works on whole
-/// relations, and dense ones on large tables take it very long.
-const WORK: usize = 12_000;
-
 #[derive(Clone, Debug)]
 pub struct Question {
     pub kind: &'static str,
@@ -19,10 +15,9 @@ pub struct Question {
 
 /// A question about a word, mostly one that can be answered; the faults come
 /// independently of each other, so that their order counts.
-pub fn question(generator: &mut Generator, word: &[u8]) -> Question {
+pub fn question(generator: &mut Generator, word: &[u8], most_rows: usize) -> Question {
     let kinds: &[Kind] = if generator.one_in(6) { &BAD } else { &GOOD };
     let kind = &kinds[generator.below(kinds.len())];
-    let most_rows = most_rows(generator, word);
     let table = (kind.make)(&mut Maker::new(generator, word, most_rows));
     let (m, n) = pair(generator, &table);
     Question {
@@ -31,13 +26,6 @@ pub fn question(generator: &mut Generator, word: &[u8]) -> Question {
         n,
         table,
         workspace: workspace(generator),
-    }
-}
-
-fn most_rows(generator: &mut Generator, word: &[u8]) -> usize {
-    match word.len() {
-        ..100 if generator.one_in(60) => MOST_ROWS,
-        length => (WORK / (length + 1)).clamp(4, MOST_ROWS),
     }
 }
 

@@ -2,10 +2,9 @@
 
 use crate::check::Check;
 use crate::counts::Counts;
-use crate::difference::Difference;
-use crate::generator::Generator;
+use crate::difference::{hex, Difference};
 use crate::library::Library;
-use crate::words::KINDS;
+use crate::words::made;
 use std::time::{Duration, Instant};
 
 /// The seed of the gate.
@@ -48,18 +47,16 @@ pub fn run(library: &Library, plan: Plan) -> Result<Counts, Box<Difference>> {
         if ended {
             break;
         }
-        let mut generator = Generator::of(plan.seed, index);
-        let kind = &KINDS[(index % KINDS.len() as u64) as usize];
-        let word = (kind.make)(&mut generator);
+        let mut made = made(plan.seed, index);
         if plan.trace {
-            println!("{index} {} {}", kind.name, crate::difference::hex(&word));
+            println!("{index} {} {}", made.kind, hex(&made.word));
         }
         let mut check = Check {
             library,
             index,
-            kind: kind.name,
-            word: &word,
-            generator: &mut generator,
+            kind: made.kind,
+            word: &made.word,
+            generator: &mut made.generator,
             counts: &mut counts,
         };
         check.all()?;

@@ -75,7 +75,7 @@ pub fn labels_in(word: &[u8]) -> Vec<u32> {
 /// Factors joined by composition, from the left as normal forms are or in any
 /// other order; self if there are none.
 pub fn joined(factors: &[Vec<u32>], generator: &mut Generator) -> Vec<u32> {
-    let haste = generator.pick(&[1, 1, 2, 5, usize::MAX]);
+    let haste = generator.pick(&[1, 1, 2, 5, 1_000_000]);
     let mut signs = Vec::new();
     let mut pending = 0;
     for factor in factors {

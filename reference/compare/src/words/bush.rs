@@ -70,7 +70,7 @@ impl Gardener<'_> {
         let label = self.label();
         let mut below: Vec<Branch> = Vec::new();
         let mut left = nodes - 1;
-        while left > 0 && !self.generator.one_in(8) {
+        while left > 0 && !self.generator.one_in(12) {
             let branch = match below.len() {
                 1.. if self.generator.one_in(2) => {
                     let brother = self.generator.below(below.len());
@@ -121,8 +121,7 @@ impl Gardener<'_> {
 
 /// A way of some steps up and down, every node with branches.
 pub fn bush(generator: &mut Generator) -> Vec<u32> {
-    let most = generator.pick(&[8, 40, 120]);
-    let nodes = generator.size(most);
+    let nodes = generator.pick(&[2, 6, 12, 25, 60]);
     let steps = generator.below(6);
     let mut gardener = Gardener::new(generator);
     let mut factors = gardener.own_factors(nodes);

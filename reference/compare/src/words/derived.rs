@@ -5,7 +5,8 @@ use super::any_signs;
 use crate::generator::Generator;
 use crate::signs::*;
 
-/// The specification's small queries P1 to P12 and its words at the limits.
+/// The specification's small queries P1 to P12 and its short bad words; each
+/// has its turn.
 const EXAMPLES: [&[u8]; 20] = [
     &[],
     &[0x01],
@@ -30,7 +31,7 @@ const EXAMPLES: [&[u8]; 20] = [
 ];
 
 pub fn example(generator: &mut Generator) -> Vec<u8> {
-    generator.pick(&EXAMPLES).to_vec()
+    EXAMPLES[generator.turn % EXAMPLES.len()].to_vec()
 }
 
 /// An accepted word with one byte changed, left out, put in or cut off.

@@ -71,14 +71,14 @@ impl Levelled<'_> {
 /// All operators in turn.
 pub fn levelled(generator: &mut Generator) -> Vec<u32> {
     let levels = generator.below(7) as i32 - 3;
-    let size = generator.size(90);
+    let size = generator.size(120);
     term(generator, 6, levels, size)
 }
 
 /// Hardly anything but intersections.
 pub fn intersections(generator: &mut Generator) -> Vec<u32> {
     let levels = generator.below(5) as i32 - 2;
-    let size = generator.size(60);
+    let size = generator.size(80);
     term(generator, 2, levels, size)
 }
 

@@ -5,6 +5,34 @@ use super::loose::operand;
 use crate::generator::Generator;
 use crate::signs::*;
 
+/// Words exactly at a limit and one beyond it, and what else stands at one in
+/// the specification: a beginning, and a part that is repeated after it.
+const EXACT: [(&[u8], usize, &[u8]); 14] = [
+    (&[], 256, &[0x01]),
+    (&[], 257, &[0x01]),
+    (&[0x02], 254, &[0x02, 0x04]),
+    (&[0x02], 255, &[0x02, 0x04]),
+    // The 256 pending operands are followed by a 257th, which is a step.
+    (&[0x01], 256, &[0x02]),
+    (&[0x01, 0x01], 255, &[0x02]),
+    (&[], 256, &[0x02]),
+    (&[], 256, &[0x03]),
+    (&[0x01], 2_047, &[0x01, 0x04]),
+    (&[0x01], 4_095, &[0x08]),
+    (&[0x01], 4_096, &[0x08]),
+    (&[0x02], 4_095, &[0x05]),
+    (&[0x88, 0x80, 0x04], 1_023, &[0x88, 0x80, 0x04, 0x04]),
+    (&[], 4_097, &[0xFF]),
+];
+
+/// How many words exactly at a limit there are; each has its turn.
+pub const EXACT_WORDS: usize = EXACT.len();
+
+pub fn exact(generator: &mut Generator) -> Vec<u8> {
+    let (beginning, times, part) = EXACT[generator.turn % EXACT_WORDS];
+    [beginning, &part.repeat(times)].concat()
+}
+
 /// Brings a word to a length next to the limit: by operators of one operand,
 /// by factors of two bytes, or by labels of three.
 pub fn bytes(generator: &mut Generator) -> Vec<u8> {

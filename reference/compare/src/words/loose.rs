@@ -7,11 +7,11 @@ use crate::signs::*;
 /// left pending at the end is joined.
 pub fn signs(generator: &mut Generator) -> Vec<u32> {
     let labels = generator.labels();
-    let most = generator.pick(&[12, 40, 40, 250]);
+    let length = generator.pick(&[4, 12, 30, 80, 250]);
     let mut signs = Vec::new();
     let mut pending = 0;
     let mut steps = 0;
-    for _ in 0..generator.size(most) {
+    for _ in 0..=generator.below(length) {
         let sign = allowed(generator, &labels, pending);
         if sign == CHILD || sign == PARENT {
             steps += 1;
@@ -23,7 +23,7 @@ pub fn signs(generator: &mut Generator) -> Vec<u32> {
         signs.push(sign);
     }
     while pending > 1 {
-        signs.push(if generator.one_in(8) {
+        signs.push(if generator.one_in(20) {
             INTERSECTION
         } else {
             COMPOSITION
@@ -35,14 +35,13 @@ pub fn signs(generator: &mut Generator) -> Vec<u32> {
 
 fn allowed(generator: &mut Generator, labels: &[u32], pending: usize) -> u32 {
     match pending {
-        2.. if generator.one_in(2) => {
-            generator.pick(&[COMPOSITION, COMPOSITION, COMPOSITION, INTERSECTION])
-        }
+        2.. if generator.one_in(2) && generator.one_in(8) => INTERSECTION,
+        2.. if generator.one_in(2) => COMPOSITION,
         1.. if generator.one_in(4) => {
             generator.pick(&[FIRST_PROJECTION, SECOND_PROJECTION, INVERSE])
         }
         MOST_PENDING.. => COMPOSITION,
-        _ if generator.one_in(100) => EMPTY,
+        _ if generator.one_in(300) => EMPTY,
         _ => operand(generator, labels),
     }
 }

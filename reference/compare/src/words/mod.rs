@@ -6,14 +6,36 @@ mod levelled;
 mod limits;
 mod loose;
 mod shapes;
+#[cfg(test)]
+mod worth;
 
 use crate::generator::Generator;
 use crate::signs;
 
-/// A kind of word: its name in the counts, and how one of it is made.
-pub struct Kind {
-    pub name: &'static str,
-    pub make: fn(&mut Generator) -> Vec<u8>,
+pub use limits::EXACT_WORDS;
+
+/// A word, the name of its kind in the counts, and the generator to go on with.
+pub struct Made {
+    pub kind: &'static str,
+    pub word: Vec<u8>,
+    pub generator: Generator,
+}
+
+/// The word with this index under a seed.
+pub fn made(seed: u64, index: u64) -> Made {
+    let kinds = KINDS.len() as u64;
+    let kind = &KINDS[(index % kinds) as usize];
+    let mut generator = Generator::of(seed, index, (index / kinds) as usize);
+    Made {
+        kind: kind.name,
+        word: (kind.make)(&mut generator),
+        generator,
+    }
+}
+
+struct Kind {
+    name: &'static str,
+    make: fn(&mut Generator) -> Vec<u8>,
 }
 
 const fn kind(name: &'static str, make: fn(&mut Generator) -> Vec<u8>) -> Kind {
@@ -21,7 +43,7 @@ const fn kind(name: &'static str, make: fn(&mut Generator) -> Vec<u8>) -> Kind {
 }
 
 /// The kinds in the order in which they take turns.
-pub const KINDS: [Kind; 18] = [
+const KINDS: [Kind; 19] = [
     kind("example", derived::example),
     kind("signs", |generator| signs::word(&loose::signs(generator))),
     kind("bush", |generator| signs::word(&bush::bush(generator))),
@@ -47,6 +69,7 @@ pub const KINDS: [Kind; 18] = [
         signs::word(&levelled::empty(generator))
     }),
     kind("bad number", derived::bad_number),
+    kind("exact limit", limits::exact),
     kind("limit of bytes", limits::bytes),
     kind("limit of pending", |generator| {
         signs::word(&limits::pending(generator))

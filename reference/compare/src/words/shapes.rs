@@ -58,7 +58,8 @@ fn dressed(generator: &mut Generator, mut signs: Vec<u32>) -> Vec<u32> {
 /// A top with many children, to 255: with labels that follow each other, so
 /// that byte order and number order differ, or any.
 pub fn star(generator: &mut Generator) -> Vec<u32> {
-    let children = generator.size(MOST_CHILDREN);
+    let most = generator.pick(&[8, 8, 40, MOST_CHILDREN]);
+    let children = generator.size(most);
     let first = generator.any_label();
     let in_turn = generator.one_in(2);
     let mut factors = Vec::new();
