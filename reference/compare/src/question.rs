@@ -1,7 +1,7 @@
 //! Pair questions about a word: a table, a pair and a workspace's length.
 
 use crate::generator::Generator;
-use crate::tables::{Kind, Maker, Table, BAD, GOOD, MOST_ROWS};
+use crate::tables::{Kind, Maker, Table, BAD, GOOD, MOST_ROWS, OWN};
 use reference::MATCH_TABLE_BYTES;
 
 #[derive(Clone, Debug)]
@@ -16,7 +16,11 @@ pub struct Question {
 /// A question about a word, mostly one that can be answered; the faults come
 /// independently of each other, so that their order counts.
 pub fn question(generator: &mut Generator, word: &[u8], most_rows: usize) -> Question {
-    let kinds: &[Kind] = if generator.one_in(6) { &BAD } else { &GOOD };
+    let kinds: &[Kind] = match generator.below(12) {
+        0 | 1 => &BAD,
+        2..8 => &OWN,
+        _ => &GOOD,
+    };
     let kind = &kinds[generator.below(kinds.len())];
     let table = (kind.make)(&mut Maker::new(generator, word, most_rows));
     let (m, n) = pair(generator, &table);

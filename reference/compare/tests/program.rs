@@ -54,7 +54,7 @@ fn a_corpus_is_written_alike_twice_and_checked() {
     let damages: [fn(&mut Vec<u8>); 3] = [
         |bytes| bytes[28] ^= 1,
         |bytes| bytes[8] ^= 1,
-        |bytes| drop(bytes.pop()),
+        |bytes| bytes.truncate(bytes.len() - 1),
     ];
     for damage in damages {
         let mut damaged = bytes.clone();

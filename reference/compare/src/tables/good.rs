@@ -4,7 +4,7 @@ use super::{Maker, Table, MOST_ROWS};
 use crate::image::{marked, minimal_records, Record};
 
 /// The word's own minimal tree, below some other nodes and with others grown
-/// onto it: here the word selects (s,d), unless a wildcard's label matters.
+/// onto it: here the word selects (s,d), whatever label a wildcard was given.
 pub fn own_tree(maker: &mut Maker) -> Table {
     let mut table = Table::default();
     above(maker, &mut table);

@@ -72,9 +72,14 @@ const fn kind(name: &'static str, make: fn(&mut Maker) -> Table) -> Kind {
     Kind { name, make }
 }
 
-pub const GOOD: [Kind; 7] = [
+/// Documents that hold the word's own minimal tree: on few others does a large
+/// word select anything.
+pub const OWN: [Kind; 2] = [
     kind("own tree", good::own_tree),
     kind("own trees", good::own_trees),
+];
+
+pub const GOOD: [Kind; 5] = [
     kind("tree", good::tree),
     kind("deep tree", good::deep_tree),
     kind("chain", good::chain),
