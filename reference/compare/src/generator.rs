@@ -34,7 +34,7 @@ impl Generator {
     }
 
     pub fn below(&mut self, bound: usize) -> usize {
-        ((self.next() >> 32) * bound as u64 >> 32) as usize
+        (((self.next() >> 32) * bound as u64) >> 32) as usize
     }
 
     pub fn one_in(&mut self, times: usize) -> bool {

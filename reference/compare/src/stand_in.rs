@@ -39,6 +39,7 @@ pub fn selects(
 #[macro_export]
 macro_rules! c_writer {
     ($writer:expr) => {{
+        use $crate::library::{list, list_mut};
         unsafe extern "C" fn through(
             word: *const u8,
             word_len: usize,
@@ -46,10 +47,7 @@ macro_rules! c_writer {
             room_len: usize,
         ) -> u64 {
             let writer: fn(&[u8], &mut [u8]) -> u64 = $writer;
-            writer(
-                std::slice::from_raw_parts(word, word_len),
-                std::slice::from_raw_parts_mut(room, room_len),
-            )
+            writer(list(word, word_len), list_mut(room, room_len))
         }
         through
     }};
@@ -59,6 +57,7 @@ macro_rules! c_writer {
 #[macro_export]
 macro_rules! c_selects {
     ($selects:expr) => {{
+        use $crate::library::{list, list_mut};
         unsafe extern "C" fn through(
             word: *const u8,
             word_len: usize,
@@ -72,13 +71,11 @@ macro_rules! c_selects {
             workspace_len: usize,
         ) -> u64 {
             let selects: fn(&[u8], (&[u32], &[u32]), (u64, u64), &mut [u8]) -> u64 = $selects;
-            let parents = std::slice::from_raw_parts(parents, parents_len);
-            let labels = std::slice::from_raw_parts(labels, labels_len);
             selects(
-                std::slice::from_raw_parts(word, word_len),
-                (parents, labels),
+                list(word, word_len),
+                (list(parents, parents_len), list(labels, labels_len)),
                 (m, n),
-                std::slice::from_raw_parts_mut(workspace, workspace_len),
+                list_mut(workspace, workspace_len),
             )
         }
         through

@@ -14,37 +14,20 @@ use archive::LIBRARY;
 mod archive {
     use compare::library::Library;
 
+    type Word = *const u8;
+    type List = *const u32;
+    type Lent = *mut u8;
+
     #[link(name = "pathplus", kind = "static")]
+    #[rustfmt::skip]
     extern "C" {
-        fn pathplus_plain_image(
-            word: *const u8,
-            word_len: usize,
-            room: *mut u8,
-            room_len: usize,
-        ) -> u64;
-        fn pathplus_minimal_image(
-            word: *const u8,
-            word_len: usize,
-            room: *mut u8,
-            room_len: usize,
-        ) -> u64;
-        fn pathplus_normal_form(
-            word: *const u8,
-            word_len: usize,
-            room: *mut u8,
-            room_len: usize,
-        ) -> u64;
+        fn pathplus_plain_image(word: Word, word_len: usize, room: Lent, room_len: usize) -> u64;
+        fn pathplus_minimal_image(word: Word, word_len: usize, room: Lent, room_len: usize) -> u64;
+        fn pathplus_normal_form(word: Word, word_len: usize, room: Lent, room_len: usize) -> u64;
         fn pathplus_selects(
-            word: *const u8,
-            word_len: usize,
-            parents: *const u32,
-            parents_len: usize,
-            labels: *const u32,
-            labels_len: usize,
-            m: u64,
-            n: u64,
-            workspace: *mut u8,
-            workspace_len: usize,
+            word: Word, word_len: usize,
+            parents: List, parents_len: usize, labels: List, labels_len: usize,
+            m: u64, n: u64, workspace: Lent, workspace_len: usize,
         ) -> u64;
     }
 

@@ -1,4 +1,5 @@
-//! Writes a corpus, or reads one and works all its outcomes out again.
+//! Writes a corpus, or reads one and works all its outcomes out again. The
+//! format is described at the top of `compare::corpus` and in README.md.
 
 use compare::corpus::{check, checksum, make};
 use compare::stand_in::LIBRARY;

@@ -3,14 +3,16 @@
 //! every list comes after its length, and each case after its own, so that a
 //! reader needs no memory but the buffers below.
 //!
-//! | Part | Bytes |
-//! |---|---|
-//! | the file | `GULPHCO1`, u32 number of cases, u32 length of the longest case, cases |
-//! | a case | u32 length of what follows; word; plain image, minimal image, normal form; u32 number of questions, questions |
-//! | the word | u32 length, so many bytes |
-//! | each of the three | u32 room length, u64 result, the answer's bytes if it is no refusal |
-//! | a question | parents; labels; u64 m, u64 n, u32 workspace length, u64 result, u32 checksum |
-//! | parents, labels | u32 length, so many u32 |
+//! - The file: the eight bytes `GULPHCO1`, u32 number of cases, u32 length of
+//!   the longest case, the cases.
+//! - A case: u32 length of what follows; the word; the outcomes of plain image,
+//!   minimal image and normal form; u32 number of questions, the questions.
+//! - The word: u32 length, so many bytes.
+//! - Each of the three outcomes: u32 room length, u64 result, and the answer's
+//!   bytes if it is no refusal.
+//! - A question: parents; labels; u64 m, u64 n, u32 workspace length, u64
+//!   result, u32 checksum.
+//! - Parents, labels: u32 length, so many u32.
 //!
 //! A result is the C call's: in its low u32 (written first) the place, or the
 //! length of the answer, or 1 for yes and 0 for no; in its high u32 the

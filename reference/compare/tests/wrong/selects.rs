@@ -5,8 +5,12 @@ use compare::library::{Library, Selects};
 use compare::stand_in::{minimal_image, selects, LIBRARY};
 
 const MATCH_TABLE: usize = 32_768;
+const ROW: usize = 128;
 const NO: u64 = 0;
 const YES: u64 = 1;
+
+type Table<'a> = (&'a [u32], &'a [u32]);
+type Pair = (u64, u64);
 
 fn with(name: &'static str, selects: Selects) -> Library {
     Library {
@@ -16,13 +20,34 @@ fn with(name: &'static str, selects: Selects) -> Library {
     }
 }
 
-/// The second implementation's answer, the workspace altered if there is one.
+pub fn all() -> Vec<Library> {
+    vec![
+        with("leaves a bit in the workspace", c_selects!(leaves_a_bit)),
+        with("clears all of the workspace", c_selects!(clears_all)),
+        with("exchanges two rows", c_selects!(exchanges_rows)),
+        with("counts bits from the highest", c_selects!(reverses_bits)),
+        with("no match table after no", c_selects!(nothing_after_no)),
+        with("asks for the pair (n,m)", c_selects!(exchanges_the_pair)),
+        with("always no", c_selects!(always_no)),
+        with("yes if the top can be laid", c_selects!(yes_by_top)),
+        with("cuts m down to 32 bits", c_selects!(cuts_m)),
+        with("10 before 9", c_selects!(ten_before_nine)),
+        with("answers empty queries first", c_selects!(empty_first)),
+        with("clears and then refuses", c_selects!(clears_and_refuses)),
+        with("cuts labels to 16 bits", c_selects!(cuts_labels)),
+        with("cuts parents to 16 bits", c_selects!(cuts_parents)),
+        with("goes by the shorter list", c_selects!(cuts_lists)),
+        with("cuts 1,025 rows down", c_selects!(cuts_rows)),
+        with("takes any first parent", c_selects!(any_first_parent)),
+        with("takes a node as its own parent", c_selects!(own_parent)),
+    ]
+}
+
+/// The second implementation's answer, the workspace altered if it answers.
 fn altered(
-    word: &[u8],
-    table: (&[u32], &[u32]),
-    pair: (u64, u64),
+    (word, table, pair): (&[u8], Table, Pair),
     workspace: &mut [u8],
-    alter: fn(&mut [u8]),
+    alter: impl Fn(&mut [u8]),
 ) -> u64 {
     let returned = selects(word, table, pair, workspace);
     if returned <= YES {
@@ -31,202 +56,126 @@ fn altered(
     returned
 }
 
-pub fn all() -> Vec<Library> {
-    [workspaces(), answers(), refusals(), tables()].concat()
+fn leaves_a_bit(word: &[u8], table: Table, pair: Pair, workspace: &mut [u8]) -> u64 {
+    let last = MATCH_TABLE - 1;
+    let left = workspace.get(last).map_or(0, |byte| byte & 1);
+    altered((word, table, pair), workspace, |bytes| bytes[last] = left)
 }
 
-fn workspaces() -> Vec<Library> {
-    vec![
-        with(
-            "leaves a bit in the workspace",
-            c_selects!(|word, table, pair, workspace| {
-                let last = workspace.get(MATCH_TABLE - 1).copied();
-                let returned = selects(word, table, pair, workspace);
-                if returned <= YES {
-                    workspace[MATCH_TABLE - 1] = last.unwrap_or(0) & 1;
-                }
-                returned
-            }),
-        ),
-        with(
-            "clears all of the workspace",
-            c_selects!(|word, table, pair, workspace| altered(
-                word,
-                table,
-                pair,
-                workspace,
-                |left| {
-                    left[MATCH_TABLE..].fill(0);
-                }
-            )),
-        ),
-        with(
-            "exchanges two rows",
-            c_selects!(|word, table, pair, workspace| altered(
-                word,
-                table,
-                pair,
-                workspace,
-                |left| {
-                    let (row, next) = left[128..384].split_at_mut(128);
-                    row.swap_with_slice(next);
-                }
-            )),
-        ),
-        with(
-            "counts bits from the highest",
-            c_selects!(|word, table, pair, workspace| altered(
-                word,
-                table,
-                pair,
-                workspace,
-                |left| {
-                    for byte in &mut left[..MATCH_TABLE] {
-                        *byte = byte.reverse_bits();
-                    }
-                }
-            )),
-        ),
-        with(
-            "leaves no match table after no",
-            c_selects!(|word, table, pair, workspace| {
-                let before = workspace.to_vec();
-                let returned = selects(word, table, pair, workspace);
-                if returned == NO {
-                    workspace.copy_from_slice(&before);
-                }
-                returned
-            }),
-        ),
-    ]
+fn clears_all(word: &[u8], table: Table, pair: Pair, workspace: &mut [u8]) -> u64 {
+    let clear = |bytes: &mut [u8]| bytes[MATCH_TABLE..].fill(0);
+    altered((word, table, pair), workspace, clear)
 }
 
-fn answers() -> Vec<Library> {
-    vec![
-        with(
-            "asks for the pair (n,m)",
-            c_selects!(|word, table, (m, n), workspace| selects(word, table, (n, m), workspace)),
-        ),
-        with(
-            "always no",
-            c_selects!(
-                |word, table, pair, workspace| match selects(word, table, pair, workspace) {
-                    YES => NO,
-                    returned => returned,
-                }
-            ),
-        ),
-        with(
-            "yes as soon as s and d can be laid",
-            c_selects!(
-                |word, table, pair, workspace| match selects(word, table, pair, workspace) {
-                    NO if workspace[0] != 0 => YES,
-                    returned => returned,
-                }
-            ),
-        ),
-    ]
+fn exchanges_rows(word: &[u8], table: Table, pair: Pair, workspace: &mut [u8]) -> u64 {
+    altered((word, table, pair), workspace, |bytes| {
+        let (row, next) = bytes[ROW..3 * ROW].split_at_mut(ROW);
+        row.swap_with_slice(next);
+    })
 }
 
-fn refusals() -> Vec<Library> {
-    vec![
-        with(
-            "cuts m down to 32 bits",
-            c_selects!(|word, table, (m, n), workspace| {
-                let m = m & u64::from(u32::MAX);
-                selects(word, table, (m, n), workspace)
-            }),
-        ),
-        with(
-            "10 before 9",
-            c_selects!(
-                |word, table, pair, workspace| match selects(word, table, pair, workspace) {
-                    returned if returned >> 32 == 9 && workspace.len() < MATCH_TABLE => {
-                        10 << 32 | MATCH_TABLE as u64
-                    }
-                    returned => returned,
-                }
-            ),
-        ),
-        with(
-            "answers an empty query first",
-            c_selects!(|word, table, pair, workspace| {
-                let mut image = [0; 2_048];
-                let is_empty = minimal_image(word, &mut image) == 1;
-                match selects(word, table, pair, workspace) {
-                    returned if returned > YES && is_empty => {
-                        let length = workspace.len().min(MATCH_TABLE);
-                        workspace[..length].fill(0);
-                        NO
-                    }
-                    returned => returned,
-                }
-            }),
-        ),
-        with(
-            "clears the workspace before it refuses",
-            c_selects!(|word, table, pair, workspace| {
-                let returned = selects(word, table, pair, workspace);
-                if returned >> 32 == 9 {
-                    workspace.fill(0);
-                }
-                returned
-            }),
-        ),
-    ]
+fn reverses_bits(word: &[u8], table: Table, pair: Pair, workspace: &mut [u8]) -> u64 {
+    altered((word, table, pair), workspace, |bytes| {
+        for byte in &mut bytes[..MATCH_TABLE] {
+            *byte = byte.reverse_bits();
+        }
+    })
 }
 
-/// Bad tables made good.
-fn tables() -> Vec<Library> {
-    vec![
-        with(
-            "cuts labels down to 16 bits",
-            c_selects!(|word, (parents, labels), pair, workspace| {
-                let labels: Vec<u32> = labels.iter().map(|label| label & 0xffff).collect();
-                selects(word, (parents, &labels), pair, workspace)
-            }),
-        ),
-        with(
-            "cuts parents down to 16 bits",
-            c_selects!(|word, (parents, labels), pair, workspace| {
-                let parents: Vec<u32> = parents.iter().map(|parent| parent & 0xffff).collect();
-                selects(word, (&parents, labels), pair, workspace)
-            }),
-        ),
-        with(
-            "goes by the shorter list",
-            c_selects!(|word, (parents, labels), pair, workspace| {
-                let rows = parents.len().min(labels.len());
-                selects(word, (&parents[..rows], &labels[..rows]), pair, workspace)
-            }),
-        ),
-        with(
-            "cuts 1,025 rows down",
-            c_selects!(|word, (parents, labels), pair, workspace| {
-                let most = |list: &[u32]| list[..list.len().min(1_024)].to_vec();
-                selects(word, (&most(parents), &most(labels)), pair, workspace)
-            }),
-        ),
-        with(
-            "takes any first parent",
-            c_selects!(|word, (parents, labels), pair, workspace| {
-                let mut parents = parents.to_vec();
-                if let Some(first) = parents.first_mut() {
-                    *first = 0;
-                }
-                selects(word, (&parents, labels), pair, workspace)
-            }),
-        ),
-        with(
-            "takes a parent equal to its node",
-            c_selects!(|word, (parents, labels), pair, workspace| {
-                let own = |(node, &parent): (usize, &u32)| match parent as usize == node {
-                    true => 0,
-                    false => parent,
-                };
-                let parents: Vec<u32> = parents.iter().enumerate().map(own).collect();
-                selects(word, (&parents, labels), pair, workspace)
-            }),
-        ),
-    ]
+fn nothing_after_no(word: &[u8], table: Table, pair: Pair, workspace: &mut [u8]) -> u64 {
+    let before = workspace.to_vec();
+    let returned = selects(word, table, pair, workspace);
+    if returned == NO {
+        workspace.copy_from_slice(&before);
+    }
+    returned
+}
+
+fn exchanges_the_pair(word: &[u8], table: Table, (m, n): Pair, workspace: &mut [u8]) -> u64 {
+    selects(word, table, (n, m), workspace)
+}
+
+fn always_no(word: &[u8], table: Table, pair: Pair, workspace: &mut [u8]) -> u64 {
+    match selects(word, table, pair, workspace) {
+        YES => NO,
+        returned => returned,
+    }
+}
+
+fn yes_by_top(word: &[u8], table: Table, pair: Pair, workspace: &mut [u8]) -> u64 {
+    match selects(word, table, pair, workspace) {
+        NO if workspace[0] != 0 => YES,
+        returned => returned,
+    }
+}
+
+fn cuts_m(word: &[u8], table: Table, (m, n): Pair, workspace: &mut [u8]) -> u64 {
+    let cut = m & u64::from(u32::MAX);
+    selects(word, table, (cut, n), workspace)
+}
+
+fn ten_before_nine(word: &[u8], table: Table, pair: Pair, workspace: &mut [u8]) -> u64 {
+    let returned = selects(word, table, pair, workspace);
+    match returned >> 32 {
+        9 if workspace.len() < MATCH_TABLE => 10 << 32 | MATCH_TABLE as u64,
+        _ => returned,
+    }
+}
+
+fn empty_first(word: &[u8], table: Table, pair: Pair, workspace: &mut [u8]) -> u64 {
+    let is_empty = minimal_image(word, &mut [0; 2_048]) == 1;
+    let returned = selects(word, table, pair, workspace);
+    if returned > YES && is_empty {
+        let length = workspace.len().min(MATCH_TABLE);
+        workspace[..length].fill(0);
+        return NO;
+    }
+    returned
+}
+
+fn clears_and_refuses(word: &[u8], table: Table, pair: Pair, workspace: &mut [u8]) -> u64 {
+    let returned = selects(word, table, pair, workspace);
+    if returned >> 32 == 9 {
+        workspace.fill(0);
+    }
+    returned
+}
+
+fn lower_half(list: &[u32]) -> Vec<u32> {
+    list.iter().map(|entry| entry & 0xffff).collect()
+}
+
+fn cuts_labels(word: &[u8], table: Table, pair: Pair, workspace: &mut [u8]) -> u64 {
+    selects(word, (table.0, &lower_half(table.1)), pair, workspace)
+}
+
+fn cuts_parents(word: &[u8], table: Table, pair: Pair, workspace: &mut [u8]) -> u64 {
+    selects(word, (&lower_half(table.0), table.1), pair, workspace)
+}
+
+fn cuts_lists(word: &[u8], table: Table, pair: Pair, workspace: &mut [u8]) -> u64 {
+    let rows = table.0.len().min(table.1.len());
+    let cut = (&table.0[..rows], &table.1[..rows]);
+    selects(word, cut, pair, workspace)
+}
+
+fn cuts_rows(word: &[u8], table: Table, pair: Pair, workspace: &mut [u8]) -> u64 {
+    let most = |list: &[u32]| list[..list.len().min(1_024)].to_vec();
+    selects(word, (&most(table.0), &most(table.1)), pair, workspace)
+}
+
+fn any_first_parent(word: &[u8], table: Table, pair: Pair, workspace: &mut [u8]) -> u64 {
+    let mut parents = table.0.to_vec();
+    parents.iter_mut().take(1).for_each(|first| *first = 0);
+    selects(word, (&parents, table.1), pair, workspace)
+}
+
+fn own_parent(word: &[u8], table: Table, pair: Pair, workspace: &mut [u8]) -> u64 {
+    let mut parents = table.0.to_vec();
+    for (node, parent) in parents.iter_mut().enumerate() {
+        if *parent as usize == node {
+            *parent = 0;
+        }
+    }
+    selects(word, (&parents, table.1), pair, workspace)
 }

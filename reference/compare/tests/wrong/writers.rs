@@ -2,7 +2,7 @@
 
 use compare::c_writer;
 use compare::image::{read, write};
-use compare::library::Library;
+use compare::library::{Library, Writer};
 use compare::stand_in::{minimal_image, normal_form, plain_image, LIBRARY};
 
 const REFUSED: u64 = 1 << 32;
@@ -55,7 +55,7 @@ fn in_number_order(image: Vec<u8>) -> Vec<u8> {
     write(&records)
 }
 
-fn with_plain_image(name: &'static str, plain_image: compare::library::Writer) -> Library {
+fn with_plain_image(name: &'static str, plain_image: Writer) -> Library {
     Library {
         name,
         plain_image,
@@ -63,7 +63,7 @@ fn with_plain_image(name: &'static str, plain_image: compare::library::Writer) -
     }
 }
 
-fn with_minimal_image(name: &'static str, minimal_image: compare::library::Writer) -> Library {
+fn with_minimal_image(name: &'static str, minimal_image: Writer) -> Library {
     Library {
         name,
         minimal_image,
@@ -71,7 +71,7 @@ fn with_minimal_image(name: &'static str, minimal_image: compare::library::Write
     }
 }
 
-fn with_normal_form(name: &'static str, normal_form: compare::library::Writer) -> Library {
+fn with_normal_form(name: &'static str, normal_form: Writer) -> Library {
     Library {
         name,
         normal_form,
@@ -176,7 +176,7 @@ unsafe extern "C" fn behind_the_room(
 ) -> u64 {
     // The comparison guards its rooms, the corpus lends from a larger buffer.
     let returned = (LIBRARY.normal_form)(word, word_len, room, room_len);
-    if returned >> 32 == 7 && room_len < 1_000 {
+    if returned >> 32 == 7 && (1..1_000).contains(&room_len) {
         *room.add(room_len) ^= 1;
     }
     returned
