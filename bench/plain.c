@@ -249,7 +249,7 @@ static void fold(struct tree *t) {
  * No writing of a number begins another, so keys compare as the bytes do. */
 static uint64_t add_to_key(uint64_t key, unsigned *shift, uint32_t number) {
   for (; number >= 0x80; number >>= 7, *shift -= 8)
-    key |= (uint64_t)(number & 0x7F | 0x80) << *shift;
+    key |= (uint64_t)((number & 0x7F) | 0x80) << *shift;
   key |= (uint64_t)number << *shift;
   *shift -= 8;
   return key;
@@ -354,7 +354,7 @@ struct writer {
 };
 
 static void put(struct writer *w, uint32_t number) {
-  for (; number >= 0x80; number >>= 7) *w->at++ = (uint8_t)(number & 0x7F | 0x80);
+  for (; number >= 0x80; number >>= 7) *w->at++ = (uint8_t)((number & 0x7F) | 0x80);
   *w->at++ = (uint8_t)number;
 }
 
