@@ -169,7 +169,7 @@ struct tree {
   uint8_t mark[MAX_NODES];
   uint16_t first[MAX_NODES], count[MAX_NODES], kids[MAX_NODES];
   uint16_t size[MAX_NODES], height[MAX_NODES];
-  uint8_t below[MAX_NODES]; /* marks of the node and all below it */
+  bool marked[MAX_NODES];  /* the node or one below it bears a mark */
   uint64_t key[MAX_NODES];  /* compares as the first three numbers of the record */
 };
 
@@ -204,10 +204,12 @@ static void gather(struct reading *r, struct tree *t) {
   }
 }
 
+/* Whether u folds onto v, for brothers or nodes below them. A mark stands on
+ * one node only, so u must bear none, nor anything below it: the caller has
+ * seen to that, and v's marks do not matter. */
 static bool folds(const struct tree *t, unsigned u, unsigned v) {
   if (t->code[u] && t->code[u] != t->code[v]) return false;
-  if (t->height[u] > t->height[v] || t->below[u] & ~t->below[v]) return false;
-  if (t->mark[u] & ~t->mark[v]) return false;
+  if (t->height[u] > t->height[v]) return false;
   const uint16_t *a = t->kids + t->first[u], *a_end = a + t->count[u];
   const uint16_t *b = t->kids + t->first[v], *b_end = b + t->count[v], *c;
   for (; a != a_end; a++) {
@@ -224,9 +226,9 @@ static void fold_children(struct tree *t, unsigned u) {
   uint16_t *kids = t->kids + t->first[u];
   unsigned count = t->count[u], kept = 0;
   for (unsigned i = 0; i < count; i++) {
-    bool goes = false;
-    for (unsigned j = 0; j < kept && !goes; j++) goes = folds(t, kids[i], kids[j]);
-    for (unsigned j = i + 1; j < count && !goes; j++) goes = folds(t, kids[i], kids[j]);
+    bool goes = false, may = !t->marked[kids[i]];
+    for (unsigned j = 0; may && j < kept && !goes; j++) goes = folds(t, kids[i], kids[j]);
+    for (unsigned j = i + 1; may && j < count && !goes; j++) goes = folds(t, kids[i], kids[j]);
     if (!goes) kids[kept++] = kids[i];
   }
   t->count[u] = (uint16_t)kept;
@@ -235,11 +237,11 @@ static void fold_children(struct tree *t, unsigned u) {
 static void fold(struct tree *t) {
   for (unsigned u = t->n; u-- > 0;) {
     t->height[u] = 0;
-    t->below[u] = t->mark[u];
+    t->marked[u] = t->mark[u] != 0;
     for (unsigned i = 0; i < t->count[u]; i++) {
       unsigned c = t->kids[t->first[u] + i];
       if (t->height[c] >= t->height[u]) t->height[u] = (uint16_t)(t->height[c] + 1);
-      t->below[u] |= t->below[c];
+      t->marked[u] |= t->marked[c];
     }
     if (t->count[u] > 1) fold_children(t, u);
   }
