@@ -475,49 +475,77 @@ struct table {
 
 static bool good_table(const uint32_t *parents, size_t np, const uint32_t *labels, size_t nl) {
   if (np != nl || np == 0 || np > PATHPLUS_MAX_ROWS || parents[0] != 0) return false;
-  bool good = true; /* no leaving early: a good table is the common one */
-  for (size_t v = 1; v < np; v++) good &= parents[v] < v;
-  for (size_t v = 0; v < np; v++) good &= labels[v] <= PATHPLUS_MAX_LABEL;
-  return good;
+  /* No leaving early, a good table being the common one. The labels' bits
+   * together stay below 65,536 only if each does; a difference has its top bit
+   * set only if it is below 0. */
+  uint64_t labels_bits = labels[0], below = ~UINT64_C(0);
+  for (size_t v = 1; v < np; v++) {
+    labels_bits |= labels[v];
+    below &= (uint64_t)parents[v] - v;
+  }
+  return labels_bits <= PATHPLUS_MAX_LABEL && below >> 63;
 }
 
-/* Bits by bytes, as the workspace is laid out; compiles to plain moves on
- * little-endian machines. */
-static uint64_t load_bits(const uint8_t *from) {
-  uint64_t bits = 0;
-  for (unsigned i = 0; i < 8; i++) bits |= (uint64_t)from[i] << (8 * i);
+/* The workspace's bytes, low first, as a word of 64 bits. */
+static uint64_t low_first(uint64_t bits) {
+#if __BYTE_ORDER__ == __ORDER_BIG_ENDIAN__
+  return __builtin_bswap64(bits);
+#else
   return bits;
+#endif
+}
+
+static uint64_t load_bits(const uint8_t *from) {
+  uint64_t bits;
+  memcpy(&bits, from, sizeof bits);
+  return low_first(bits);
 }
 
 static void store_bits(uint8_t *to, uint64_t bits) {
-  for (unsigned i = 0; i < 8; i++) to[i] = (uint8_t)(bits >> (8 * i));
+  bits = low_first(bits);
+  memcpy(to, &bits, sizeof bits);
+}
+
+/* 64 bytes of 0 or 1 to 64 bits. The product brings each of eight bytes to its
+ * bit of the top byte; no two of its parts meet. */
+static uint64_t pack(const uint8_t *bytes) {
+  uint64_t bits = 0;
+  for (unsigned i = 0; i < 64; i += 8)
+    bits |= (load_bits(bytes + i) * UINT64_C(0x0102040810204080) >> 56) << i;
+  return bits;
 }
 
 /* The document nodes whose label fits, 64 to a word. */
 static void fitting(const struct table *doc, uint32_t code, uint64_t *row) {
   for (unsigned v = 0; v < doc->n; v += 64) {
     unsigned end = doc->n - v < 64 ? doc->n - v : 64;
-    uint64_t bits = end == 64 ? ~UINT64_C(0) : (UINT64_C(1) << end) - 1;
-    if (code) {
+    const uint32_t *labels = doc->labels + v;
+    uint64_t bits = ~UINT64_C(0) >> (64 - end);
+    uint8_t same[64];
+    if (code && end == 64) { /* a loop of fixed length: the compiler takes many at once */
+      for (unsigned i = 0; i < 64; i++) same[i] = labels[i] == code - 1;
+      bits = pack(same);
+    } else if (code) {
       bits = 0;
-      for (unsigned i = 0; i < end; i++) bits |= (uint64_t)(doc->labels[v + i] == code - 1) << i;
+      for (unsigned i = 0; i < end; i++) bits |= (uint64_t)(labels[i] == code - 1) << i;
     }
     row[v / 64] = bits;
   }
 }
 
-/* Keeps in row the parents of the nodes that the child's row holds. */
+/* Keeps in row the parents of the nodes that the child's row holds; 0 if none
+ * is left. Parents are marked by bytes first: stores need not wait for each
+ * other, as brothers setting bits of one word would. */
 static uint64_t keep_parents(const struct table *doc, const uint8_t *child, uint64_t *row) {
-  uint64_t parents[PATHPLUS_MAX_ROWS / 64] = {0}, left = 0;
+  uint8_t parents[PATHPLUS_MAX_ROWS];
+  uint64_t left = 0;
+  memset(parents, 0, (doc->n + 63) & ~63u);
   for (unsigned v = 0; v < doc->n; v += 64) {
     uint64_t bits = load_bits(child + v / 8);
     if (v == 0) bits &= ~UINT64_C(1); /* the root is nobody's child */
-    for (; bits; bits &= bits - 1) {
-      unsigned p = doc->parents[v + (unsigned)__builtin_ctzll(bits)];
-      parents[p / 64] |= UINT64_C(1) << (p % 64);
-    }
+    for (; bits; bits &= bits - 1) parents[doc->parents[v + (unsigned)__builtin_ctzll(bits)]] = 1;
   }
-  for (unsigned v = 0; v < doc->n; v += 64) left |= row[v / 64] &= parents[v / 64];
+  for (unsigned v = 0; v < doc->n; v += 64) left |= row[v / 64] &= pack(parents + v);
   return left;
 }
 
