@@ -9,8 +9,8 @@
 /* ---- the workloads, by number ---- */
 
 typedef void sized_query(struct saved_query *q, unsigned steps);
-static sized_query *const sized[] = {folding_branches, lasting_branches, chain_down, twin_chains,
-                                     caterpillar, zigzag, nested_zigzag};
+static sized_query *const sized[] = {folding_branches, lasting_branches, chain_down,   twin_chains,
+                                     caterpillar,      zigzag,           nested_zigzag};
 static void (*const small[])(struct saved_query *) = {granted_curves, granted_wordy,
                                                       granted_neighbours, granted_hall};
 enum {
@@ -40,8 +40,8 @@ static void print_writers(struct tallies *t) {
   static struct saved_query q;
   static struct writing w[IMPLEMENTATIONS];
   struct contest c[IMPLEMENTATIONS];
-  printf("\nWriters, time of a call\n\n%-14s %-18s %5s %10s %10s %8s\n", "call", "query", "steps", "library",
-         "plain C", "lib/C");
+  printf("\nWriters, time of a call\n\n%-14s %-18s %5s %10s %10s %8s\n", "call", "query", "steps",
+         "library", "plain C", "lib/C");
   for (enum writer which = MINIMAL_IMAGE; which < WRITERS; which++)
     for (unsigned i = 0; i < QUERIES; i++) {
       make_query(i, &q);
@@ -60,17 +60,19 @@ static void print_writers(struct tallies *t) {
 /* ---- the pair question ---- */
 
 /* One line; returns library/plain, and through *by_xml library/libxml2. */
-static double print_pair(const struct saved_query *q, const struct document *doc, struct xml_document *xml,
-                         double *by_xml) {
+static double print_pair(const struct saved_query *q, const struct document *doc,
+                         struct xml_document *xml, double *by_xml) {
   static struct asking a[CONTESTANTS];
   struct contest c[CONTESTANTS];
   prepare_pair(a, q, doc, xml, c);
   time_contest(c, CONTESTANTS);
-  printf("%-7s %5u %-18s %5u %-4s", doc->shape, doc->n, q->name, q->steps, a[PLAIN].result ? "yes" : "no");
+  printf("%-7s %5u %-18s %5u %-4s", doc->shape, doc->n, q->name, q->steps,
+         a[PLAIN].result ? "yes" : "no");
   for (unsigned i = 0; i < CONTESTANTS; i++) print_ns(c[i].ns);
   double ratio = time_ratio(&c[LIBRARY], &c[PLAIN]);
   *by_xml = time_ratio(&c[LIBRARY], &c[XML]);
-  printf(" %8.2f %9.3f%s\n", ratio, *by_xml, a[XML].result == XPATH_GAVE_UP ? "  libxml2 gave up" : "");
+  printf(" %8.2f %9.3f%s\n", ratio, *by_xml,
+         a[XML].result == XPATH_GAVE_UP ? "  libxml2 gave up" : "");
   return ratio;
 }
 
@@ -92,8 +94,9 @@ static void print_document(enum shape shape, unsigned rows, struct tallies *t) {
 }
 
 static void print_pairs(struct tallies *t) {
-  printf("\nPair question, time of a call\n\n%-7s %5s %-18s %5s %-4s %10s %10s %10s %8s %9s\n", "shape", "rows",
-         "query", "steps", "", "library", "plain C", "libxml2", "lib/C", "lib/xml");
+  printf("\nPair question, time of a call\n\n%-7s %5s %-18s %5s %-4s %10s %10s %10s %8s %9s\n",
+         "shape", "rows", "query", "steps", "", "library", "plain C", "libxml2", "lib/C",
+         "lib/xml");
   for (enum shape s = STORE; s < SHAPES; s++) {
     print_document(s, 16, t);
     print_document(s, 128, t);
@@ -170,7 +173,8 @@ static size_t larger(size_t a, size_t b) { return a > b ? a : b; }
 
 /* The deepest of all queries, the pair question on the longest chain. */
 static void print_stack(void) {
-  static const char *const names[WRITERS + 1] = {"plain_image", "minimal_image", "normal_form", "selects"};
+  static const char *const names[WRITERS + 1] = {"plain_image", "minimal_image", "normal_form",
+                                                 "selects"};
   static struct saved_query q;
   static struct document doc;
   static struct writing w;
@@ -196,11 +200,12 @@ static void print_stack(void) {
 }
 
 int main(void) {
-  struct tallies t = {.small_writer = {"writers, small queries: library/plain C", 1.5, 0, 0, 0},
-                      .large_writer = {"writers, 255 steps: library/plain C", 2, 0, 0, 0},
-                      .small_pair = {"pair question, small queries: library/plain C", 1.5, 0, 0, 0},
-                      .large_pair = {"pair question, 255 steps: library/plain C", 2, 0, 0, 0},
-                      .store = {"pair question, small queries, store: library/libxml2", 1, 0, 0, 0}};
+  struct tallies t = {
+      .small_writer = {"writers, small queries: library/plain C", 1.5, 0, 0, 0},
+      .large_writer = {"writers, 255 steps: library/plain C", 2, 0, 0, 0},
+      .small_pair = {"pair question, small queries: library/plain C", 1.5, 0, 0, 0},
+      .large_pair = {"pair question, 255 steps: library/plain C", 2, 0, 0, 0},
+      .store = {"pair question, small queries, store: library/libxml2", 1, 0, 0, 0}};
   print_writers(&t);
   print_pairs(&t);
   print_writer_growth();

@@ -160,7 +160,8 @@ unsigned brute_plain_nodes(const uint8_t *word, size_t len) {
 }
 
 /* Reads the record at *at as node q->n, and all below it. */
-static bool read_record(const uint8_t *image, size_t len, size_t *at, unsigned parent, struct query *q) {
+static bool read_record(const uint8_t *image, size_t len, size_t *at, unsigned parent,
+                        struct query *q) {
   if (q->n == BRUTE_NODES || *at + 3 > len) return false;
   unsigned u = q->n++;
   q->from[u] = *at;
@@ -182,7 +183,8 @@ bool brute_query(const uint8_t *image, size_t len, struct query *q) {
   return q->n == n && at == len;
 }
 
-bool brute_lays(const struct query *q, unsigned u, const struct small_doc *doc, unsigned v, int m, int n) {
+bool brute_lays(const struct query *q, unsigned u, const struct small_doc *doc, unsigned v, int m,
+                int n) {
   if (q->code[u] && q->code[u] - 1 != doc->labels[v]) return false;
   if (m >= 0 && (q->mark[u] & 1) && v != (unsigned)m) return false;
   if (n >= 0 && (q->mark[u] & 2) && v != (unsigned)n) return false;

@@ -46,7 +46,8 @@ bool brute_query(const uint8_t *image, size_t len, struct query *q);
 
 /* u and all below it laid with u on v; marks count if m and n are nodes, and
  * are ignored if both are -1. */
-bool brute_lays(const struct query *q, unsigned u, const struct small_doc *doc, unsigned v, int m, int n);
+bool brute_lays(const struct query *q, unsigned u, const struct small_doc *doc, unsigned v, int m,
+                int n);
 
 bool brute_selects(const struct query *q, const struct small_doc *doc, unsigned m, unsigned n);
 

@@ -6,9 +6,8 @@
 #include <stdint.h>
 
 typedef uint64_t write_call(const uint8_t *word, size_t word_len, uint8_t *room, size_t room_len);
-typedef uint64_t pair_call(const uint8_t *word, size_t word_len,
-                           const uint32_t *parents, size_t parents_len,
-                           const uint32_t *labels, size_t labels_len,
+typedef uint64_t pair_call(const uint8_t *word, size_t word_len, const uint32_t *parents,
+                           size_t parents_len, const uint32_t *labels, size_t labels_len,
                            uint64_t m, uint64_t n, uint8_t *workspace, size_t workspace_len);
 
 struct calls {

@@ -56,7 +56,8 @@ static bool all_guard(const uint8_t *from, size_t n) {
 /* Calls a writer with each interesting length of room: answered, it leaves
  * what is behind the answer; refused, it leaves everything. The answer goes to
  * `out` (ROOM bytes); returns its length, or 0 if the word is refused. */
-static size_t write_checked(struct check *k, write_call *call, const uint8_t *word, size_t len, uint8_t *out) {
+static size_t write_checked(struct check *k, write_call *call, const uint8_t *word, size_t len,
+                            uint8_t *out) {
   memset(out, GUARD, ROOM);
   uint64_t wanted = brute_refusal(word, len), r = call(word, len, out, ROOM);
   if (wanted) {
@@ -69,7 +70,8 @@ static size_t write_checked(struct check *k, write_call *call, const uint8_t *wo
   if (!good) return 0;
   uint8_t room[ROOM];
   memset(room, GUARD, ROOM);
-  expect(k, call(word, len, room, r - 1) == refused(7, r) && all_guard(room, ROOM), "refusal 7", word, len);
+  expect(k, call(word, len, room, r - 1) == refused(7, r) && all_guard(room, ROOM), "refusal 7",
+         word, len);
   expect(k, call(word, len, NULL, 0) == refused(7, r), "refusal 7 without room", word, len);
   expect(k, call(word, len, room, r) == r && !memcmp(room, out, ROOM), "exact room", word, len);
   return r;
@@ -103,8 +105,7 @@ static void check_table(struct check *k) {
       /* an unlabelled way above t stays; a chain holds branches */
       {"02 06", "02 00 00 01 00 03 00", "02 06"},
       {"02 02 04 05", "03 00 03 01 00 00 01 00 00 00", "02 02 04 05"},
-      {"02 02 0A 04 05 04 02 0B 04 05 04 05",
-       "04 00 03 01 00 00 02 02 00 00 03 00 00",
+      {"02 02 0A 04 05 04 02 0B 04 05 04 05", "04 00 03 01 00 00 02 02 00 00 03 00 00",
        "02 02 0A 04 05 04 02 0B 04 05 04 05"},
   };
   for (size_t i = 0; i < sizeof rows / sizeof *rows; i++) {
@@ -158,12 +159,33 @@ static void check_limits(struct check *k) {
   expect_refusal(k, word, 511, refused(5, 509));
 }
 
+static size_t put_number(uint8_t *word, size_t n, uint32_t number) {
+  for (; number >= 128; number /= 128) word[n++] = (uint8_t)(number % 128 + 128);
+  word[n++] = (uint8_t)number;
+  return n;
+}
+
+/* The longest answers there are: a labelled top with 255 labelled children. */
+static void check_largest(struct check *k) {
+  static uint8_t word[PATHPLUS_MAX_WORD], out[ROOM];
+  size_t n = put_number(word, 0, 9 + 65535);
+  for (uint32_t i = 0; i < PATHPLUS_MAX_STEPS; i++) {
+    word[n++] = 2;
+    n = put_number(word, n, 9 + 65000 + i);
+    memcpy(word + n, (uint8_t[]){4, 5, 4}, 3);
+    n += 3;
+  }
+  expect(k, write_checked(k, k->calls->plain_image, word, n, out) == 1283, "1,283", word, n);
+  expect(k, write_checked(k, k->calls->minimal_image, word, n, out) == 1283, "1,283", word, n);
+  expect(k, write_checked(k, k->calls->normal_form, word, n, out) == 1788, "1,788", word, n);
+}
+
 /* selects on a workspace that is guarded behind; what it left goes to space. */
 static uint64_t ask(struct check *k, const uint8_t *word, size_t len, const struct small_doc *doc,
                     uint64_t m, uint64_t n, uint8_t *space) {
   memset(space, GUARD, SPACE);
-  uint64_t r = k->calls->selects(word, len, doc->parents, doc->n, doc->labels, doc->n, m, n,
-                                 space, SPACE - 1);
+  uint64_t r = k->calls->selects(word, len, doc->parents, doc->n, doc->labels, doc->n, m, n, space,
+                                 SPACE - 1);
   expect(k, all_guard(space + PATHPLUS_WORKSPACE, SPACE - PATHPLUS_WORKSPACE),
          "bytes behind the workspace", word, len);
   return r;
@@ -186,15 +208,25 @@ static void check_pair_refusals(struct check *k) {
   static uint32_t zero[1025], big[1025], late[3] = {0, 1, 1}, top[3] = {1, 0, 0};
   const uint8_t empty[] = {0}, self[] = {1};
   pair_call *call = k->calls->selects;
-  struct { const uint32_t *p; size_t np; const uint32_t *l; size_t nl; uint64_t m, n; size_t ws; uint64_t wanted; }
-  cases[] = {
-      {NULL, 0, NULL, 0, 9, 9, 0, refused(8, 0)},      {zero, 1, zero, 2, 9, 9, 0, refused(8, 0)},
-      {zero, 1025, zero, 1025, 9, 9, 0, refused(8, 0)}, {top, 3, zero, 3, 9, 9, 0, refused(8, 0)},
-      {late, 3, zero, 3, 9, 9, 0, refused(8, 0)},       {zero, 1024, big, 1024, 0, 0, SPACE, refused(8, 0)},
-      {zero, 3, zero, 3, 3, 0, 0, refused(9, 0)},       {zero, 3, zero, 3, 0, UINT64_C(1) << 32, 0, refused(9, 0)},
-      {zero, 3, zero, 3, UINT64_MAX, 0, SPACE, refused(9, 0)},
-      {zero, 3, zero, 3, 2, 2, PATHPLUS_WORKSPACE - 1, refused(10, 32768)},
-      {zero, 3, zero, 3, 2, 2, 0, refused(10, 32768)}};
+  struct {
+    const uint32_t *p;
+    size_t np;
+    const uint32_t *l;
+    size_t nl;
+    uint64_t m, n;
+    size_t ws;
+    uint64_t wanted;
+  } cases[] = {{NULL, 0, NULL, 0, 9, 9, 0, refused(8, 0)},
+               {zero, 1, zero, 2, 9, 9, 0, refused(8, 0)},
+               {zero, 1025, zero, 1025, 9, 9, 0, refused(8, 0)},
+               {top, 3, zero, 3, 9, 9, 0, refused(8, 0)},
+               {late, 3, zero, 3, 9, 9, 0, refused(8, 0)},
+               {zero, 1024, big, 1024, 0, 0, SPACE, refused(8, 0)},
+               {zero, 3, zero, 3, 3, 0, 0, refused(9, 0)},
+               {zero, 3, zero, 3, 0, UINT64_C(1) << 32, 0, refused(9, 0)},
+               {zero, 3, zero, 3, UINT64_MAX, 0, SPACE, refused(9, 0)},
+               {zero, 3, zero, 3, 2, 2, PATHPLUS_WORKSPACE - 1, refused(10, 32768)},
+               {zero, 3, zero, 3, 2, 2, 0, refused(10, 32768)}};
   big[1023] = 65536;
   memset(space, GUARD, SPACE);
   for (size_t i = 0; i < sizeof cases / sizeof *cases; i++) {
@@ -216,12 +248,6 @@ static uint32_t random_label(struct random *g, unsigned variety) {
   return labels[random_below(g, variety)];
 }
 
-static size_t put_number(uint8_t *word, size_t n, uint32_t number) {
-  for (; number >= 128; number /= 128) word[n++] = (uint8_t)(number % 128 + 128);
-  word[n++] = (uint8_t)number;
-  return n;
-}
-
 /* An accepted word with at most `steps` steps. In long words different labels
  * and intersections would nearly always clash somewhere and give empty, so
  * most of those have one label and none. */
@@ -240,8 +266,7 @@ static size_t random_word(struct random *g, unsigned steps, uint8_t *word) {
       n = put_number(word, n, random_below(g, 3) ? 2 : 3), left--, pending++;
     else if (left && random_below(g, 60))
       n = put_number(word, n, random_below(g, 5) ? 9 + random_label(g, variety) : 1), pending++;
-    else if (left && !calm && !random_below(g, 40))
-      word[n++] = 0, pending++;
+    else if (left && !calm && !random_below(g, 40)) word[n++] = 0, pending++;
   }
   while (pending > 1) word[n++] = 4, pending--;
   if (!pending) word[n++] = 1;
@@ -277,7 +302,8 @@ static bool same_pairs(const struct query *q, const struct small_doc *doc, const
   return true;
 }
 
-static bool right_matches(const struct query *q, const struct small_doc *doc, const uint8_t *space) {
+static bool right_matches(const struct query *q, const struct small_doc *doc,
+                          const uint8_t *space) {
   for (unsigned u = 0; u < 256; u++)
     for (unsigned v = 0; v < 1024; v++) {
       bool wanted = u < q->n && v < doc->n && brute_lays(q, u, doc, v, -1, -1);
@@ -310,7 +336,8 @@ static void check_meaning(struct check *k, struct random *g, const uint8_t *word
   expect(k, same_pairs(minimal, &doc, &p), "meaning of the minimal tree", word, len);
   for (unsigned m = 0; m < doc.n; m++)
     for (unsigned n = 0; n < doc.n; n++)
-      expect(k, ask(k, word, len, &doc, m, n, space) == (p.to[m] >> n & 1), "pair question", word, len);
+      expect(k, ask(k, word, len, &doc, m, n, space) == (p.to[m] >> n & 1), "pair question", word,
+             len);
   expect(k, right_matches(minimal, &doc, space), "match table", word, len);
 }
 
@@ -324,7 +351,8 @@ static void check_word(struct check *k, struct random *g, const uint8_t *word, s
               brute_query(minimal, nm, &mq);
   expect(k, good, "images", word, len);
   if (!good) return;
-  expect(k, !pq.n == !mq.n && (!pq.n || pq.n == brute_plain_nodes(word, len)), "plain nodes", word, len);
+  expect(k, !pq.n == !mq.n && (!pq.n || pq.n == brute_plain_nodes(word, len)), "plain nodes", word,
+         len);
   expect(k, well_ordered(plain, &pq, false), "order of the plain image", word, len);
   expect(k, well_ordered(minimal, &mq, true), "order and folding of the minimal image", word, len);
   expect(k, normal_signs(normal, nn, &mq), "signs of the normal form", word, len);
@@ -351,6 +379,7 @@ int main(int argc, char **argv) {
   static uint8_t word[5000];
   check_table(&k);
   check_limits(&k);
+  check_largest(&k);
   check_pair_examples(&k);
   check_pair_refusals(&k);
   for (long i = 0; i < rounds; i++) {

@@ -28,8 +28,8 @@ struct writing writing_of(unsigned implementation, enum writer which, const stru
   return (struct writing){.call = calls[which], .q = q};
 }
 
-void prepare_writers(struct writing w[IMPLEMENTATIONS], enum writer which, const struct saved_query *q,
-                     struct contest contests[IMPLEMENTATIONS]) {
+void prepare_writers(struct writing w[IMPLEMENTATIONS], enum writer which,
+                     const struct saved_query *q, struct contest contests[IMPLEMENTATIONS]) {
   for (unsigned i = 0; i < IMPLEMENTATIONS; i++) {
     w[i] = writing_of(i, which, q);
     call_writer(&w[i]);
@@ -43,10 +43,9 @@ void prepare_writers(struct writing w[IMPLEMENTATIONS], enum writer which, const
 void call_pair(void *asking) {
   struct asking *a = asking;
   if (a->call)
-    a->result = a->call(a->q->word, a->q->len, a->doc->parents, a->doc->n, a->doc->labels, a->doc->n,
-                        a->m, a->n, a->workspace, sizeof a->workspace);
-  else
-    a->result = xpath_selects(a->xml, a->q->text, a->m, a->n);
+    a->result = a->call(a->q->word, a->q->len, a->doc->parents, a->doc->n, a->doc->labels,
+                        a->doc->n, a->m, a->n, a->workspace, sizeof a->workspace);
+  else a->result = xpath_selects(a->xml, a->q->text, a->m, a->n);
 }
 
 /* From the last node with the query's first label; if it has none, from the
@@ -62,8 +61,9 @@ static void choose_pair(struct asking *a) {
   a->n = a->m;
 }
 
-void prepare_pair(struct asking a[CONTESTANTS], const struct saved_query *q, const struct document *doc,
-                  struct xml_document *xml, struct contest contests[CONTESTANTS]) {
+void prepare_pair(struct asking a[CONTESTANTS], const struct saved_query *q,
+                  const struct document *doc, struct xml_document *xml,
+                  struct contest contests[CONTESTANTS]) {
   a[PLAIN] = (struct asking){.call = plain_calls.selects, .q = q, .doc = doc};
   choose_pair(&a[PLAIN]);
   a[LIBRARY] = a[XML] = a[PLAIN];
@@ -77,5 +77,6 @@ void prepare_pair(struct asking a[CONTESTANTS], const struct saved_query *q, con
   insist(a[LIBRARY].result == a[PLAIN].result &&
              !memcmp(a[LIBRARY].workspace, a[PLAIN].workspace, PATHPLUS_WORKSPACE),
          q, "selects");
-  insist(a[XML].result == XPATH_GAVE_UP || a[XML].result == a[PLAIN].result, q, "selects and XPath");
+  insist(a[XML].result == XPATH_GAVE_UP || a[XML].result == a[PLAIN].result, q,
+         "selects and XPath");
 }

@@ -33,8 +33,8 @@ void call_writer(void *writing);
 struct writing writing_of(unsigned implementation, enum writer which, const struct saved_query *q);
 
 /* Both implementations' calls, run once and compared. */
-void prepare_writers(struct writing w[IMPLEMENTATIONS], enum writer which, const struct saved_query *q,
-                     struct contest contests[IMPLEMENTATIONS]);
+void prepare_writers(struct writing w[IMPLEMENTATIONS], enum writer which,
+                     const struct saved_query *q, struct contest contests[IMPLEMENTATIONS]);
 
 /* ---- the pair question ---- */
 
@@ -52,7 +52,8 @@ void call_pair(void *asking);
 
 /* All three, run once and compared on a pair that is selected if any is from
  * the node that was chosen. libxml2 may have given up. */
-void prepare_pair(struct asking a[CONTESTANTS], const struct saved_query *q, const struct document *doc,
-                  struct xml_document *xml, struct contest contests[CONTESTANTS]);
+void prepare_pair(struct asking a[CONTESTANTS], const struct saved_query *q,
+                  const struct document *doc, struct xml_document *xml,
+                  struct contest contests[CONTESTANTS]);
 
 #endif

@@ -26,9 +26,7 @@ enum {
 
 enum sign { EMPTY, SELF, CHILD, PARENT, COMPOSE, FIRST, SECOND, MEET, INVERSE, LABEL };
 
-static uint64_t refuse(uint32_t number, uint32_t place) {
-  return (uint64_t)number << 32 | place;
-}
+static uint64_t refuse(uint32_t number, uint32_t place) { return (uint64_t)number << 32 | place; }
 
 /* ---- reading and gluing ---- */
 
@@ -117,8 +115,8 @@ static void push_operand(struct reading *r, uint32_t sign) {
 
 static void apply_one(struct operand *o, uint32_t sign) {
   uint16_t s = o->s;
-  if (sign != FIRST) o->s = o->d;  /* second projection, inverse */
-  if (sign != SECOND) o->d = s;    /* first projection, inverse */
+  if (sign != FIRST) o->s = o->d; /* second projection, inverse */
+  if (sign != SECOND) o->d = s;   /* first projection, inverse */
 }
 
 static void apply_two(struct reading *r, uint32_t sign) {
@@ -130,8 +128,7 @@ static void apply_two(struct reading *r, uint32_t sign) {
     r->empty = !glue(p, a->d, b.s);
     a->d = b.d;
   } else {
-    r->empty = !glue(p, a->s, b.s) || depth_of(p, a->d) != depth_of(p, b.d) ||
-               !glue(p, a->d, b.d);
+    r->empty = !glue(p, a->s, b.s) || depth_of(p, a->d) != depth_of(p, b.d) || !glue(p, a->d, b.d);
   }
 }
 
@@ -170,7 +167,7 @@ struct tree {
   uint16_t first[MAX_NODES], count[MAX_NODES], kids[MAX_NODES];
   uint16_t size[MAX_NODES], height[MAX_NODES];
   bool marked[MAX_NODES];  /* the node or one below it bears a mark */
-  uint64_t key[MAX_NODES];  /* compares as the first three numbers of the record */
+  uint64_t key[MAX_NODES]; /* compares as the first three numbers of the record */
 };
 
 /* The tree of the one operand left. All representatives of the pool are its
@@ -213,7 +210,8 @@ static bool folds(const struct tree *t, unsigned u, unsigned v) {
   const uint16_t *a = t->kids + t->first[u], *a_end = a + t->count[u];
   const uint16_t *b = t->kids + t->first[v], *b_end = b + t->count[v], *c;
   for (; a != a_end; a++) {
-    for (c = b; c != b_end && !folds(t, *a, *c); c++) {}
+    for (c = b; c != b_end && !folds(t, *a, *c); c++) {
+    }
     if (c == b_end) return false;
   }
   return true;
@@ -334,8 +332,8 @@ static void lay_out(const struct tree *t, struct rows *q) {
 }
 
 /* Not inlined, so that the pool leaves the stack before anything is written. */
-__attribute__((noinline)) static uint64_t query_of(const uint8_t *word, size_t len,
-                                                   bool folded, struct rows *q) {
+__attribute__((noinline)) static uint64_t query_of(const uint8_t *word, size_t len, bool folded,
+                                                   struct rows *q) {
   struct reading r;
   struct tree t;
   uint64_t refusal = read_word(&r, word, len);
@@ -366,7 +364,8 @@ static uint64_t deliver(const uint8_t *answer, size_t n, uint8_t *room, size_t r
   return n;
 }
 
-static uint64_t image(const uint8_t *word, size_t len, bool folded, uint8_t *room, size_t room_len) {
+static uint64_t image(const uint8_t *word, size_t len, bool folded, uint8_t *room,
+                      size_t room_len) {
   struct rows q;
   uint8_t answer[PATHPLUS_IMAGE_ROOM];
   struct writer w = {answer};
@@ -416,7 +415,8 @@ static void put_branch(struct writer *w, const struct rows *q, unsigned c, bool 
   put_factor(w, outer, FIRST);
 }
 
-static void put_own(struct writer *w, const struct rows *q, const bool *way, unsigned u, bool *started) {
+static void put_own(struct writer *w, const struct rows *q, const bool *way, unsigned u,
+                    bool *started) {
   put_label(w, started, q->code[u]);
   for (unsigned k = u + 1; k < u + q->size[u]; k += q->size[k])
     if (!way[k]) put_branch(w, q, k, started);
@@ -574,10 +574,9 @@ static bool climb(const struct rows *q, const struct table *doc, const uint8_t *
   }
 }
 
-uint64_t plain_selects(const uint8_t *word, size_t word_len,
-                       const uint32_t *parents, size_t parents_len,
-                       const uint32_t *labels, size_t labels_len,
-                       uint64_t m, uint64_t n, uint8_t *workspace, size_t workspace_len) {
+uint64_t plain_selects(const uint8_t *word, size_t word_len, const uint32_t *parents,
+                       size_t parents_len, const uint32_t *labels, size_t labels_len, uint64_t m,
+                       uint64_t n, uint8_t *workspace, size_t workspace_len) {
   struct rows q;
   struct table doc = {parents, labels, (unsigned)parents_len};
   uint16_t place[MAX_NODES];

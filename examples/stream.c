@@ -96,12 +96,15 @@ static void show_refusals(void) {
   loop[3] = 5; /* a parent that comes later */
   print_refusal("word cut off", pathplus_minimal_image(cut, sizeof cut, room, sizeof room));
   print_refusal("room too short", pathplus_minimal_image(cut, 1, room, sizeof room));
-  print_refusal("bad table", pathplus_selects(saved, sizeof saved, loop, NODES, labels, NODES, 0, 4,
-                                              workspace, sizeof workspace));
-  print_refusal("no such node", pathplus_selects(saved, sizeof saved, parents, NODES, labels, NODES,
-                                                 0, NODES, workspace, sizeof workspace));
-  print_refusal("short workspace", pathplus_selects(saved, sizeof saved, parents, NODES, labels, NODES,
-                                                    0, 4, workspace, sizeof workspace - 1));
+  print_refusal("bad table",
+                pathplus_selects(saved, sizeof saved, loop, NODES, labels, NODES, 0, 4,
+                                 workspace, sizeof workspace));
+  print_refusal("no such node",
+                pathplus_selects(saved, sizeof saved, parents, NODES, labels, NODES, 0, NODES,
+                                 workspace, sizeof workspace));
+  print_refusal("short workspace",
+                pathplus_selects(saved, sizeof saved, parents, NODES, labels, NODES, 0, 4,
+                                 workspace, sizeof workspace - 1));
 }
 
 int main(void) {
