@@ -195,7 +195,7 @@ void nested_zigzag(struct saved_query *q, unsigned steps) {
     open(q);
     parent(q, ANY);
     open(q);
-    child(q, q->steps + 2 <= steps ? ANY : OTHER);
+    child(q, q->steps + 3 <= steps ? ANY : OTHER); /* with this step, two more */
   }
   while (q->depth) close(q);
 }
