@@ -1,2 +1,4 @@
 pub mod Links
 pub mod Inserting
+pub mod Keys
+pub mod Records
