@@ -1,4 +1,5 @@
+pub mod Keys
 pub mod Links
 pub mod Inserting
-pub mod Keys
 pub mod Records
+pub mod Growing
