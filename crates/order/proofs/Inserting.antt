@@ -10,7 +10,7 @@ use lib.Seq.{getD-set-same, getD-set-other}
 use Rattle.meaning.specs.Tree.{Forest, bare, tree, size}
 use Rattle.order.specs.declared.Order.{Order}
 use Rattle.order.specs.Links.{forestAt, Linked, In, Apart, Finite, Wide, cmpT, upTo, placeBy, orderedBy, spotOf, Ready, Placed, Loose, Ordered}
-use Rattle.order.proofs.Links.{read-is, fine-of, read-none, Opens, opens}
+use Rattle.order.proofs.Links.{read-is, finite-of, read-none, Opens, opens}
 
 -- ------------------------------------------------------------------ links that are kept
 pub kept : (fs ns fs′ ns′ : List ℕ) → length ns′ ≡ length ns → (F : Forest ℕ) (c : ℕ)
@@ -129,7 +129,7 @@ module _ (fs ns key : List ℕ) (c q : ℕ) (w : Ready fs ns key c q) (p : ℕ) 
     → ((j : ℕ) → (j ≡ c → ⊥) → (In j Q → ⊥) → getD ns′ j 0 ≡ getD ns j 0) → Placed fs ns key c q ns′ r
   built ns′ r low len h rest =
       let s : size (placeBy key c K Q) ≤ length ns′ = rw (size-place key c K Q, len) (w .room) in
-      record { reads = read-is fs ns′ r (placeBy key c K Q) h s; fine = fine-of fs ns′ r (placeBy key c K Q) h s; low = low; nexts = len; rest = rest }
+      record { reads = read-is fs ns′ r (placeBy key c K Q) h s; finite = finite-of fs ns′ r (placeBy key c K Q) h s; low = low; nexts = len; rest = rest }
 
   pub placed-front : length ns ≤ p → (ns′ : List ℕ) → ns′ ≡ set ns c q → Placed fs ns key c q ns′ c
   placed-front h ns′ e = go landed
@@ -179,11 +179,11 @@ module _ (key : List ℕ) where
 -- ------------------------------------------------------------------ one call of in_order
 pub ordered-none : (fs ns key : List ℕ) (c : ℕ) → Loose fs ns key c → length ns ≤ c → Ordered fs ns key c fs ns c
 ordered-none fs ns key c w h =
-    record { reads = rw (read-none fs ns c h) (unfold orderedBy in refl); fine = w .fine; low = w .low; firsts = refl; nexts = refl; rest = λ j m. (refl, refl) }
+    record { reads = rw (read-none fs ns c h) (unfold orderedBy in refl); finite = w .finite; low = w .low; firsts = refl; nexts = refl; rest = λ j m. (refl, refl) }
 
 module _ (fs ns key : List ℕ) (c : ℕ) (w : Loose fs ns key c) (l : c < length ns) (i : ℕ) (ei : i ≡ getD fs c 0) (low : i < 65536) where
   abbrev o : Opens fs ns c
-  o = opens fs ns c (w .fine) l
+  o = opens fs ns c (w .finite) l
 
   abbrev K₀ : Forest ℕ
   K₀ = forestAt fs ns (getD fs c 0)
@@ -195,10 +195,10 @@ module _ (fs ns key : List ℕ) (c : ℕ) (w : Loose fs ns key c) (l : c < lengt
   all-apart = rw (o .reads) at (w .apart)
 
   all-small : size (tree c K₀ R₀) ≤ length ns
-  all-small = rw (o .reads) at (w .fine .small)
+  all-small = rw (o .reads) at (w .finite .small)
 
   pub kids-loose : Loose fs ns key i
-  kids-loose = record { wide = w .wide; short = w .short; low = low; fine = rw ei (o .down); apart = rw ei (all-apart .3) }
+  kids-loose = record { wide = w .wide; short = w .short; low = low; finite = rw ei (o .down); apart = rw ei (all-apart .3) }
 
   module _ (fs₁ ns₁ : List ℕ) (k : ℕ) (O₁ : Ordered fs ns key i fs₁ ns₁ k) (fs₂ : List ℕ) (e₂ : fs₂ ≡ set fs₁ c k) (j : ℕ) (ej : j ≡ getD ns₁ c 0) (lowj : j < 65536) where
     rest₁ : (x : ℕ) → (In x K₀ → ⊥) → (getD fs₁ x 0 ≡ getD fs x 0) × (getD ns₁ x 0 ≡ getD ns x 0)
@@ -223,7 +223,7 @@ module _ (fs ns key : List ℕ) (c : ℕ) (w : Loose fs ns key c) (l : c < lengt
         wide = record { firsts = rw (O₁ .nexts, len₂) (w .wide .firsts); keys = rw (O₁ .nexts) (w .wide .keys) };
         short = rw (O₁ .nexts) (w .short);
         low = lowj;
-        fine = fine-of fs₂ ns₁ j R₀ beside (rw (O₁ .nexts) (o .along .small));
+        finite = finite-of fs₂ ns₁ j R₀ beside (rw (O₁ .nexts) (o .along .small));
         apart = rw reads-j (all-apart .4);
       },
       rw reads-j (o .along-less))
@@ -245,7 +245,7 @@ module _ (fs ns key : List ℕ) (c : ℕ) (w : Loose fs ns key c) (l : c < lengt
       under = kept fs₁ ns₁ fs₃ ns₃ (O₂ .nexts) (orderedBy key K₀) k
           (λ x m. let y = in-sort key K₀ x m in let z = rest₂ x (λ u. all-apart .2 x y u) in
             (z .0 ∙ rw e₂ (getD-set-other fs₁ c x k 0 (λ u. all-apart .0 (rw u at y))), z .1))
-          (rw reads-k at (O₁ .fine .holds))
+          (rw reads-k at (O₁ .finite .holds))
 
       small-k : size (orderedBy key K₀) ≤ length ns₃
       small-k = rw (size-sort key K₀, len₃) (o .down .small)
@@ -262,8 +262,8 @@ module _ (fs ns key : List ℕ) (c : ℕ) (w : Loose fs ns key c) (l : c < lengt
         inside = rw len₃ l;
         short = rw len₃ (w .short);
         low = O₂ .low;
-        kids = rw at-k (fine-of fs₃ ns₃ k (orderedBy key K₀) under small-k);
-        list = O₂ .fine;
+        kids = rw at-k (finite-of fs₃ ns₃ k (orderedBy key K₀) under small-k);
+        list = O₂ .finite;
         apart = rw (kids-are, list-is) (apart-both key c K₀ R₀ (apart-sort key K₀ (all-apart .3)) (apart-sort key R₀ (all-apart .4)) all-apart);
         room = rw (kids-are, list-is, size-sort key K₀, size-sort key R₀, len₃) all-small;
       }
@@ -271,7 +271,7 @@ module _ (fs ns key : List ℕ) (c : ℕ) (w : Loose fs ns key c) (l : c < lengt
       pub ordered-some : (ns₄ : List ℕ) (r : ℕ) → Placed fs₃ ns₃ key c q ns₄ r → Ordered fs ns key c fs₃ ns₄ r
       ordered-some ns₄ r P = record {
         reads = P .reads ∙ rw (kids-are, list-is, o .reads) (unfold orderedBy in refl);
-        fine = P .fine;
+        finite = P .finite;
         low = P .low;
         firsts = O₂ .firsts ∙ len₂;
         nexts = P .nexts ∙ len₃;

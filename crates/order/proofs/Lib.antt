@@ -3,3 +3,4 @@ pub mod Links
 pub mod Inserting
 pub mod Records
 pub mod Growing
+pub mod Gathering

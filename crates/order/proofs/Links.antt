@@ -26,8 +26,8 @@ pub read-is : (fs ns : List ℕ) (c : ℕ) (F : Forest ℕ) → Linked fs ns c F
 unfolding forestAt
 read-is fs ns c F h s = read-holds (length ns) fs ns c F h s
 
-pub fine-of : (fs ns : List ℕ) (c : ℕ) (F : Forest ℕ) → Linked fs ns c F → size F ≤ length ns → Finite fs ns c
-fine-of fs ns c F h s = let e = read-is fs ns c F h s in record { holds = rw e h; small = rw e s }
+pub finite-of : (fs ns : List ℕ) (c : ℕ) (F : Forest ℕ) → Linked fs ns c F → size F ≤ length ns → Finite fs ns c
+finite-of fs ns c F h s = let e = read-is fs ns c F h s in record { holds = rw e h; small = rw e s }
 
 pub read-none : (fs ns : List ℕ) (c : ℕ) → length ns ≤ c → forestAt fs ns c ≡ bare
 read-none fs ns c h = read-is fs ns c bare h (omega arith)
@@ -52,8 +52,8 @@ opens fs ns c w l = go (forestAt fs ns c) refl (w .holds) (w .small)
         let er = read-is fs ns (getD ns c 0) r hr′ (omega arith) in
         record {
           reads = rw (ek, er, e, ei);
-          down = fine-of fs ns (getD fs c 0) k hk′ (omega arith);
-          along = fine-of fs ns (getD ns c 0) r hr′ (omega arith);
+          down = finite-of fs ns (getD fs c 0) k hk′ (omega arith);
+          along = finite-of fs ns (getD ns c 0) r hr′ (omega arith);
           down-less = rw (ek, e) (omega arith);
           along-less = rw (er, e) (omega arith);
         }

@@ -99,7 +99,7 @@ pub record Ready (fs ns key : List ℕ) (c q : ℕ) : Type 0 where
 
 pub record Placed (fs ns key : List ℕ) (c q : ℕ) (ns′ : List ℕ) (r : ℕ) : Type 0 where
   pub reads : forestAt fs ns′ r ≡ placeBy key c (forestAt fs ns (getD fs c 0)) (forestAt fs ns q)
-  pub fine : Finite fs ns′ r
+  pub finite : Finite fs ns′ r
   pub low : r < 65536
   pub nexts : length ns′ ≡ length ns
   pub rest : (j : ℕ) → (j ≡ c → ⊥) → (In j (forestAt fs ns q) → ⊥) → getD ns′ j 0 ≡ getD ns j 0
@@ -109,12 +109,12 @@ pub record Loose (fs ns key : List ℕ) (c : ℕ) : Type 0 where
   pub wide : Wide fs ns key
   pub short : length ns < 65536
   pub low : c < 65536
-  pub fine : Finite fs ns c
+  pub finite : Finite fs ns c
   pub apart : Apart (forestAt fs ns c)
 
 pub record Ordered (fs ns key : List ℕ) (c : ℕ) (fs′ ns′ : List ℕ) (r : ℕ) : Type 0 where
   pub reads : forestAt fs′ ns′ r ≡ orderedBy key (forestAt fs ns c)
-  pub fine : Finite fs′ ns′ r
+  pub finite : Finite fs′ ns′ r
   pub low : r < 65536
   pub firsts : length fs′ ≡ length fs
   pub nexts : length ns′ ≡ length ns

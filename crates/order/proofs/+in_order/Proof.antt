@@ -38,7 +38,7 @@ in-order-link-requires t c κs = omega (arith, c .before .before .before .before
 -- src/lib.rt:141:9
 in-order-in-order-requires : (t : ℕ) → in-order-lts.Need-in-order-requires (in-order-claims t) (in-order-at t) in-order.Post
 in-order-in-order-requires t c κs = 
-    (rw (← c .before .before .before .before .before .before .before .before .pre .0) (goes-down _ _ _ _ (c .before .before .before .before .before .before .before .before .pre .1 .fine) (c .before .before .before .before .if1 .left) (c .before .before .link .ensures .0) .1),
+    (rw (← c .before .before .before .before .before .before .before .before .pre .0) (goes-down _ _ _ _ (c .before .before .before .before .before .before .before .before .pre .1 .finite) (c .before .before .before .before .if1 .left) (c .before .before .link .ensures .0) .1),
       kids-loose _ _ _ _ (c .before .before .before .before .before .before .before .before .pre .1) (c .before .before .before .before .if1 .left) _ (c .before .before .link .ensures .0) (c .before .before .link .ensures .1))
 -- src/lib.rt:142:5
 in-order-set-link-requires : (t : ℕ) → in-order-lts.Need-set-link-requires (in-order-claims t) (in-order-at t) in-order.Post
