@@ -4,3 +4,4 @@ pub mod Inserting
 pub mod Records
 pub mod Growing
 pub mod Gathering
+pub mod LaidOut
