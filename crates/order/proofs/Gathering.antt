@@ -64,6 +64,12 @@ gathered-none parent n fs ns count short h =
       counts = λ p k. rw z (h (slotOf n p) (let s = slot-le n p in omega arith) .1);
     }
 
+pub slots-kept : (parent : List ℕ) (n : ℕ) (fs ns count fs′ ns′ count′ : List ℕ) → Slots parent n fs ns count
+  → length fs′ ≡ length fs → length ns′ ≡ length ns → length count′ ≡ length count → Slots parent n fs′ ns′ count′
+slots-kept parent n fs ns count fs′ ns′ count′ w ef en ec = record {
+    few = w .few; parents = w .parents; firsts = rw ef (w .firsts); nexts = rw en (w .nexts); short = rw en (w .short); counts = rw ec (w .counts); known = w .known;
+  }
+
 module _ (parent : List ℕ) (n i : ℕ) (fs ns count : List ℕ) (w : Slots parent n fs ns count) (pos : 0 < i) (le : i ≤ n) (G : Gathered parent n i fs ns count)
     (p : ℕ) (ep : p ≡ slotOf n (getD parent (i - 1) 0)) where
   abbrev j : ℕ

@@ -8,6 +8,7 @@ use native.Mathlib.Omega.{arith}
 use lib.ListN.{length, getD, set, length-set}
 use lib.Seq.{getD-set-same, getD-set-other}
 use Rattle.meaning.specs.Tree.{Forest, bare, tree, size}
+use Rattle.rows.specs.Rows.{width, Counted}
 use Rattle.order.specs.declared.Order.{Order}
 use Rattle.order.specs.Links.{forestAt, Linked, In, Apart, Finite, Wide, cmpT, upTo, placeBy, orderedBy, spotOf, Ready, Placed, Loose, Ordered}
 use Rattle.order.proofs.Links.{read-is, finite-of, read-none, Opens, opens}
@@ -153,28 +154,58 @@ module _ (fs ns key : List ℕ) (c q : ℕ) (w : Ready fs ns key c q) (p : ℕ) 
 
 -- ------------------------------------------------------------------ sorted forests
 module _ (key : List ℕ) where
-  pub in-sort : (F : Forest ℕ) (j : ℕ) → In j (orderedBy key F) → In j F
+  pub in-orderedBy : (F : Forest ℕ) (j : ℕ) → In j (orderedBy key F) → In j F
   unfolding orderedBy
-  in-sort bare j m = m
-  in-sort (tree i k r) j m = go (in-place key i (orderedBy key k) (orderedBy key r) j m) (in-sort k j) (in-sort r j)
+  in-orderedBy bare j m = m
+  in-orderedBy (tree i k r) j m = go (in-place key i (orderedBy key k) (orderedBy key r) j m) (in-orderedBy k j) (in-orderedBy r j)
     where
       go : (j ≡ i) ⊎ In j (orderedBy key k) ⊎ In j (orderedBy key r) → (In j (orderedBy key k) → In j k) → (In j (orderedBy key r) → In j r) → (j ≡ i) ⊎ In j k ⊎ In j r
       go (inl x) a b = inl x
       go (inr (inl x)) a b = inr (inl (a x))
       go (inr (inr x)) a b = inr (inr (b x))
 
-  pub size-sort : (F : Forest ℕ) → size (orderedBy key F) ≡ size F
+  pub size-orderedBy : (F : Forest ℕ) → size (orderedBy key F) ≡ size F
   unfolding orderedBy
-  size-sort bare = refl
-  size-sort (tree i k r) = let a = size-place key i (orderedBy key k) (orderedBy key r) in let b = size-sort k in let d = size-sort r in omega arith
+  size-orderedBy bare = refl
+  size-orderedBy (tree i k r) = let a = size-place key i (orderedBy key k) (orderedBy key r) in let b = size-orderedBy k in let d = size-orderedBy r in omega arith
 
   pub apart-both : (i : ℕ) (k r : Forest ℕ) → Apart (orderedBy key k) → Apart (orderedBy key r) → Apart (tree i k r) → Apart (tree i (orderedBy key k) (orderedBy key r))
-  apart-both i k r sk sr (ik, ir, kr, ak, ar) = ((λ m. ik (in-sort k i m)), (λ m. ir (in-sort r i m)), (λ j m m′. kr j (in-sort k j m) (in-sort r j m′)), sk, sr)
+  apart-both i k r sk sr (ik, ir, kr, ak, ar) = ((λ m. ik (in-orderedBy k i m)), (λ m. ir (in-orderedBy r i m)), (λ j m m′. kr j (in-orderedBy k j m) (in-orderedBy r j m′)), sk, sr)
 
-  pub apart-sort : (F : Forest ℕ) → Apart F → Apart (orderedBy key F)
+  pub apart-orderedBy : (F : Forest ℕ) → Apart F → Apart (orderedBy key F)
   unfolding orderedBy
-  apart-sort bare a = a
-  apart-sort (tree i k r) a = apart-place key i (orderedBy key k) (orderedBy key r) (apart-both i k r (apart-sort k (a .3)) (apart-sort r (a .4)) a)
+  apart-orderedBy bare a = a
+  apart-orderedBy (tree i k r) a = apart-place key i (orderedBy key k) (orderedBy key r) (apart-both i k r (apart-orderedBy k (a .3)) (apart-orderedBy r (a .4)) a)
+
+  -- so does the number of brothers, and the number of each row's children
+  width-place : (i : ℕ) (k R : Forest ℕ) → width (placeBy key i k R) ≡ suc (width R)
+  unfolding placeBy
+  width-place i k bare = refl
+  width-place i k (tree j l r) = go (upTo (cmpT key i k j l)) (width-place i k r)
+    where
+      go : (t : Bool) → width (placeBy key i k r) ≡ suc (width r) → width (cond t (tree i k (tree j l r)) (tree j l (placeBy key i k r))) ≡ suc (suc (width r))
+      go true ih = refl
+      go false ih = ap suc ih
+
+  pub width-orderedBy : (F : Forest ℕ) → width (orderedBy key F) ≡ width F
+  unfolding orderedBy
+  width-orderedBy bare = refl
+  width-orderedBy (tree i k r) = width-place i (orderedBy key k) (orderedBy key r) ∙ ap suc (width-orderedBy r)
+
+  counted-place : (count : List ℕ) (i : ℕ) (k R : Forest ℕ) → Counted count (tree i k R) → Counted count (placeBy key i k R)
+  unfolding placeBy
+  counted-place count i k bare h = h
+  counted-place count i k (tree j l r) (ci, ck, (cj, cl, cr)) = go (upTo (cmpT key i k j l)) (counted-place count i k r (ci, ck, cr))
+    where
+      go : (t : Bool) → Counted count (placeBy key i k r) → Counted count (cond t (tree i k (tree j l r)) (tree j l (placeBy key i k r)))
+      go true ih = (ci, ck, (cj, cl, cr))
+      go false ih = (cj, cl, ih)
+
+  pub counted-orderedBy : (count : List ℕ) (F : Forest ℕ) → Counted count F → Counted count (orderedBy key F)
+  unfolding orderedBy
+  counted-orderedBy count bare h = h
+  counted-orderedBy count (tree i k r) (ci, ck, cr) =
+      counted-place count i (orderedBy key k) (orderedBy key r) (rw (width-orderedBy k) ci, counted-orderedBy count k ck, counted-orderedBy count r cr)
 
 -- ------------------------------------------------------------------ one call of in_order
 pub ordered-none : (fs ns key : List ℕ) (c : ℕ) → Loose fs ns key c → length ns ≤ c → Ordered fs ns key c fs ns c
@@ -243,12 +274,12 @@ module _ (fs ns key : List ℕ) (c : ℕ) (w : Loose fs ns key c) (l : c < lengt
 
       under : Linked fs₃ ns₃ k (orderedBy key K₀)
       under = kept fs₁ ns₁ fs₃ ns₃ (O₂ .nexts) (orderedBy key K₀) k
-          (λ x m. let y = in-sort key K₀ x m in let z = rest₂ x (λ u. all-apart .2 x y u) in
+          (λ x m. let y = in-orderedBy key K₀ x m in let z = rest₂ x (λ u. all-apart .2 x y u) in
             (z .0 ∙ rw e₂ (getD-set-other fs₁ c x k 0 (λ u. all-apart .0 (rw u at y))), z .1))
           (rw reads-k at (O₁ .finite .holds))
 
       small-k : size (orderedBy key K₀) ≤ length ns₃
-      small-k = rw (size-sort key K₀, len₃) (o .down .small)
+      small-k = rw (size-orderedBy key K₀, len₃) (o .down .small)
 
       kids-are : forestAt fs₃ ns₃ (getD fs₃ c 0) ≡ orderedBy key K₀
       kids-are = rw at-k (read-is fs₃ ns₃ k (orderedBy key K₀) under small-k)
@@ -264,8 +295,8 @@ module _ (fs ns key : List ℕ) (c : ℕ) (w : Loose fs ns key c) (l : c < lengt
         low = O₂ .low;
         kids = rw at-k (finite-of fs₃ ns₃ k (orderedBy key K₀) under small-k);
         list = O₂ .finite;
-        apart = rw (kids-are, list-is) (apart-both key c K₀ R₀ (apart-sort key K₀ (all-apart .3)) (apart-sort key R₀ (all-apart .4)) all-apart);
-        room = rw (kids-are, list-is, size-sort key K₀, size-sort key R₀, len₃) all-small;
+        apart = rw (kids-are, list-is) (apart-both key c K₀ R₀ (apart-orderedBy key K₀ (all-apart .3)) (apart-orderedBy key R₀ (all-apart .4)) all-apart);
+        room = rw (kids-are, list-is, size-orderedBy key K₀, size-orderedBy key R₀, len₃) all-small;
       }
 
       pub ordered-some : (ns₄ : List ℕ) (r : ℕ) → Placed fs₃ ns₃ key c q ns₄ r → Ordered fs ns key c fs₃ ns₄ r
@@ -279,5 +310,5 @@ module _ (fs ns key : List ℕ) (c : ℕ) (w : Loose fs ns key c) (l : c < lengt
           let a = rest₁ x (λ u. y (inr (inl u))) in
           let b = rest₂ x (λ u. y (inr (inr u))) in
           (b .0 ∙ rw e₂ (getD-set-other fs₁ c x k 0 (λ u. y (inl u))) ∙ a .0,
-            P .rest x (λ u. y (inl u)) (λ u. y (inr (inr (in-sort key R₀ x (rw list-is at u))))) ∙ b .1 ∙ a .1);
+            P .rest x (λ u. y (inl u)) (λ u. y (inr (inr (in-orderedBy key R₀ x (rw list-is at u))))) ∙ b .1 ∙ a .1);
       }

@@ -5,3 +5,5 @@ pub mod Records
 pub mod Growing
 pub mod Gathering
 pub mod LaidOut
+pub mod TableOrder
+pub mod ImageRows

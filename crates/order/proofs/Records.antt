@@ -17,6 +17,7 @@ use Rattle.order.specs.declared.Order.{Order}
 use Rattle.order.specs.declared.Order.the-variants.{Before, Same, After}
 use Rattle.order.specs.Links.{thenBy, cmpN, cmpF, cmpT, upTo, placeBy, orderedBy}
 use Rattle.order.specs.Keys.{written, keyOf}
+use Rattle.order.proofs.Inserting.{width-orderedBy}
 use Rattle.order.proofs.Keys.{cmpL, then-assoc, Three, three, lower, equal, upper, num-cmp, key-cmp, key-back}
 
 abbrev pub keyT : Tag → ℕ → ℕ
@@ -163,27 +164,13 @@ module _ (key : List ℕ) (tag : ℕ → Tag) where
       go true ih = (ei, bi, ck, kk, (ej, bj, cl, kl, kr))
       go false ih = (ej, bj, cl, kl, ih)
 
-  width-place : (i : ℕ) (k R : Forest ℕ) → width (placeBy key i k R) ≡ suc (width R)
-  unfolding placeBy
-  width-place i k bare = refl
-  width-place i k (tree j l r) = go (upTo (cmpT key i k j l)) (width-place i k r)
-    where
-      go : (t : Bool) → width (placeBy key i k r) ≡ suc (width r) → width (cond t (tree i k (tree j l r)) (tree j l (placeBy key i k r))) ≡ suc (suc (width r))
-      go true ih = refl
-      go false ih = ap suc ih
-
-  width-ordered : (F : Forest ℕ) → width (orderedBy key F) ≡ width F
-  unfolding orderedBy
-  width-ordered bare = refl
-  width-ordered (tree i k r) = width-place i (orderedBy key k) (orderedBy key r) ∙ ap suc (width-ordered r)
-
   keyed-both : (i : ℕ) (k r : Forest ℕ) → Keyed key tag (tree i k r) → Keyed key tag (orderedBy key k) → Keyed key tag (orderedBy key r) → Keyed key tag (tree i (orderedBy key k) (orderedBy key r))
-  keyed-both i k r (ei, bi, ck, kk, kr) a b = (rw (width-ordered k) ei, bi, rw (width-ordered k) ck, a, b)
+  keyed-both i k r (ei, bi, ck, kk, kr) a b = (rw (width-orderedBy key k) ei, bi, rw (width-orderedBy key k) ck, a, b)
 
-  pub keyed-ordered : (F : Forest ℕ) → Keyed key tag F → Keyed key tag (orderedBy key F)
+  pub keyed-orderedBy : (F : Forest ℕ) → Keyed key tag F → Keyed key tag (orderedBy key F)
   unfolding orderedBy
-  keyed-ordered bare h = h
-  keyed-ordered (tree i k r) h = keyed-place i (orderedBy key k) (orderedBy key r) (keyed-both i k r h (keyed-ordered k (h .3)) (keyed-ordered r (h .4)))
+  keyed-orderedBy bare h = h
+  keyed-orderedBy (tree i k r) h = keyed-place i (orderedBy key k) (orderedBy key r) (keyed-both i k r h (keyed-orderedBy k (h .3)) (keyed-orderedBy r (h .4)))
 
   place-is : (i : ℕ) (k R : Forest ℕ) → Keyed key tag (tree i k R) → Sorted (mapT tag k) → Sorted (mapT tag R) → mapT tag (placeBy key i k R) ≡ place (tag i) (mapT tag k) (mapT tag R)
   unfolding placeBy mapT
@@ -205,5 +192,5 @@ module _ (key : List ℕ) (tag : ℕ → Tag) where
   ordered-by bare h = refl
   ordered-by (tree i k r) h =
       let ek = ordered-by k (h .3) in let er = ordered-by r (h .4) in
-      place-is i (orderedBy key k) (orderedBy key r) (keyed-both i k r h (keyed-ordered k (h .3)) (keyed-ordered r (h .4))) (rw ek (sorted-ordered (mapT tag k))) (rw er (sorted-ordered (mapT tag r)))
+      place-is i (orderedBy key k) (orderedBy key r) (keyed-both i k r h (keyed-orderedBy k (h .3)) (keyed-orderedBy r (h .4))) (rw ek (sorted-ordered (mapT tag k))) (rw er (sorted-ordered (mapT tag r)))
       ∙ rw (ek, er)

@@ -7,6 +7,7 @@ use mathlib.Core.List.{List, [], _∷_}
 use Prim.Native.Nat.{ℕ, suc, _-_, _≤_, _<_}
 use lib.ListN.{length, getD}
 use lib.Dec.{ltb}
+use Rattle.meaning.specs.Number.{largestLabel}
 use Rattle.rows.specs.Rows.{noRow}
 use Rattle.order.specs.Table.{childrenOf}
 use Rattle.order.specs.Keys.{keyOf}
@@ -42,6 +43,14 @@ pub record Slots (parent : List ℕ) (n : ℕ) (fs ns count : List ℕ) : Type 0
 pub record Gathered (parent : List ℕ) (n b : ℕ) (fs ns count : List ℕ) : Type 0 where
   pub lists : (p : ℕ) → Known n p → Run ns b (getD fs (slotOf n p) 0) (childrenOf p parent (n - b) b)
   pub counts : (p : ℕ) → Known n p → getD count (slotOf n p) 0 ≡ length (childrenOf p parent (n - b) b)
+
+-- the first n rows have label codes, marks and numbers of children that a key can hold
+pub record Keyable (code mark count : List ℕ) (n : ℕ) (key : List ℕ) : Type 0 where
+  pub codes : n ≤ length code
+  pub marks : n ≤ length mark
+  pub counts : n ≤ length count
+  pub keys : n ≤ length key
+  pub labels : (i : ℕ) → i < n → getD code i 0 ≤ suc largestLabel
 
 -- the first b rows have their keys
 abbrev pub Keys : List ℕ → List ℕ → List ℕ → ℕ → List ℕ → Type 0

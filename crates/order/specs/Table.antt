@@ -43,7 +43,7 @@ tableRows parent code zero j = []
 tableRows parent code (suc k) j = node (parentOf (getD parent j 0)) (labOf (getD code j 0)) ∷ tableRows parent code k (suc j)
 
 -- ------------------------------------------------------------------ when a table is a tree
--- n rows that are a tree, or no rows: levels say that no row lies above itself, and at most one row has no parent
+-- n rows that are a tree, or no rows: levels say that no row lies above itself, and at most one row, at level 0, has no parent
 pub record Table (parent code mark : List ℕ) (n : ℕ) : Type 0 where
   pub few : n ≤ 256
   pub parents : n ≤ length parent
@@ -54,4 +54,5 @@ pub record Table (parent code mark : List ℕ) (n : ℕ) : Type 0 where
   pub level : ℕ → ℕ
   pub linked : (i : ℕ) → i < n → (getD parent i 0 ≡ noRow → ⊥) → (getD parent i 0 < n) × (level i ≡ suc (level (getD parent i 0)))
   pub top : ℕ
+  pub topLevel : level top ≡ 0
   pub single : (i : ℕ) → i < n → getD parent i 0 ≡ noRow → i ≡ top

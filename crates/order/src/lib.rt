@@ -1,10 +1,20 @@
-// Brothers in image order. A tree is a table of rows: first[u] is the first child of row u, next[u] its next brother;
-// a number that is not below next.len() leads nowhere. key[u] is a number that orders rows as the first three numbers of their records.
+// Brothers in ascending byte order: from a table of parents to rows in image order.
+// The children of each row become a list (`first` has its first child, `next` the next brother), each list is put in order by insertion, and the
+// tree is then laid out as rows. A link that is not below next.len() leads nowhere, so the test for the end of a list is the test for its bounds.
+// Two brothers are compared without writing their records out: one key a row stands for the first three numbers of its record.
 ghost use mathlib.Core.Path.{_≡_};
 ghost use Prim.Native.Nat.{ℕ, _+_, _<_, _≤_};
 ghost use lib.ListN.{length, getD, set};
+ghost use Rattle.meaning.specs.Image.{ordered};
+ghost use Rattle.rows.specs.Rows.{Rows, treeRows};
+ghost use Rattle.order.specs.Table.{Table, tableTree};
+ghost use Rattle.order.specs.Keys.{written};
+ghost use Rattle.order.specs.Gathering.{slotOf, Empty, Slots, Gathered, Keyable, Keys};
 ghost use Rattle.order.specs.Links.{Wide, Finite, forestAt, cmpF, goesFirst, spotOf, Ready, Placed, Loose, Ordered};
+ghost use Rattle.order.specs.LaidOut.{Roomy, Laid, Borne, Bearing};
+ghost use Rattle.order.specs.Contract.{Room};
 
+// How a record stands to another one in byte order.
 pub enum Order {
     Before,
     Same,
@@ -12,21 +22,23 @@ pub enum Order {
 }
 
 // What stands at i.
-pub fn link(t: &[u16], i: usize) -> usize
+fn link(t: &[u16], i: usize) -> usize
     requires { ⌜ i < length (now t) ⌝ }
     ensures { λ r. ⌜ (r ≡ getD (now (t .entry)) i 0) × (r < 65536) ⌝ }
 {
     t[i] as usize
 }
 
-pub fn set_link(t: &mut [u16], i: usize, v: usize)
+// Puts v at i.
+fn set_link(t: &mut [u16], i: usize, v: usize)
     requires { ⌜ (i < length (now t)) × (v < 65536) ⌝ }
     ensures { λ _. ⌜ now (t .exit) ≡ set (now (t .entry)) i v ⌝ }
 {
     t[i] = v as u16;
 }
 
-pub fn key_at(t: &[u64], i: usize) -> u64
+// The key of row i.
+fn key_at(t: &[u64], i: usize) -> u64
     requires { ⌜ i < length (now t) ⌝ }
     ensures { λ r. ⌜ r ≡ getD (now (t .entry)) i 0 ⌝ }
 {
@@ -34,7 +46,7 @@ pub fn key_at(t: &[u64], i: usize) -> u64
 }
 
 // The forest at x against the forest at y.
-pub fn compare(first: &[u16], next: &[u16], key: &[u64], x: usize, y: usize) -> Order
+fn compare(first: &[u16], next: &[u16], key: &[u64], x: usize, y: usize) -> Order
     requires { ⌜ Wide (now first) (now next) (now key) × Finite (now first) (now next) x × Finite (now first) (now next) y ⌝ }
     ensures { λ r. ⌜ r ≡ cmpF (now (key .entry)) (forestAt (now (first .entry)) (now (next .entry)) x) (forestAt (now (first .entry)) (now (next .entry)) y) ⌝ }
 {
@@ -129,7 +141,7 @@ fn place(first: &[u16], next: &mut [u16], key: &[u64], c: usize, q: usize) -> us
 }
 
 // Puts the forest at c in order, and returns its first tree.
-pub fn in_order(first: &mut [u16], next: &mut [u16], key: &[u64], c: usize) -> usize
+fn in_order(first: &mut [u16], next: &mut [u16], key: &[u64], c: usize) -> usize
     requires { ⌜ Loose (now first) (now next) (now key) c ⌝ }
     ensures { λ r. ⌜ Ordered (now (first .entry)) (now (next .entry)) (now (key .entry)) c (now (first .exit)) (now (next .exit)) r ⌝ }
 {
@@ -143,4 +155,151 @@ pub fn in_order(first: &mut [u16], next: &mut [u16], key: &[u64], c: usize) -> u
     let j = link(next, c);
     let q = in_order(first, next, key, j);
     place(first, next, key, c, q)
+}
+
+// Where the list of p's children starts in `first`: behind the rows there is one more slot, for the top, which has no parent.
+fn slot(p: usize, n: usize) -> usize
+    ensures { λ r. ⌜ r ≡ slotOf n p ⌝ }
+{
+    if p < n {
+        return p;
+    }
+    n
+}
+
+// Empties the lists of n rows and of the top.
+fn clear(n: usize, first: &mut [u16], count: &mut [u16])
+    requires { ⌜ (n < length (now first)) × (n < length (now count)) ⌝ }
+    ensures { λ _. ⌜ Empty (n + 1) (now (first .exit)) (now (count .exit)) ⌝ }
+{
+    let mut i: usize = 0;
+    while i <= n {
+        set_link(first, i, 65535);
+        set_link(count, i, 0);
+        i += 1;
+    }
+}
+
+// Gives each parent the list of its children, in the order of the table, and their number.
+fn gather(parent: &[u16], n: usize, first: &mut [u16], next: &mut [u16], count: &mut [u16])
+    requires { ⌜ Slots (now parent) n (now first) (now next) (now count) × Empty (n + 1) (now first) (now count) ⌝ }
+    ensures { λ _. ⌜ Gathered (now (parent .entry)) n 0 (now (first .exit)) (now (next .exit)) (now (count .exit)) ⌝ }
+{
+    let mut i = n;
+    // from the last row to the first: a row is put in front of its later brothers
+    while 0 < i {
+        i -= 1;
+        let p = slot(link(parent, i), n);
+        let h = link(first, p);
+        set_link(next, i, h);
+        set_link(first, p, i);
+        let k = link(count, p);
+        set_link(count, p, k + 1);
+    }
+}
+
+// The bytes of x, filled up to three, as one number.
+fn bytes_of(x: u64) -> u64
+    requires { ⌜ x < 2097152 ⌝ }
+    ensures { λ r. ⌜ (r ≡ written x) × (r < 16777216) ⌝ }
+{
+    if x < 128 {
+        return 65536 * x;
+    }
+    let a = 65536 * (128 + x % 128);
+    if x < 16384 {
+        return a + 256 * (x / 128);
+    }
+    a + 256 * (128 + x / 128 % 128) + x / 16384
+}
+
+fn wide(x: u32) -> u64
+    ensures { λ r. ⌜ r ≡ x ⌝ }
+{
+    x as u64
+}
+
+fn wide8(x: u8) -> u64
+    ensures { λ r. ⌜ (r ≡ x) × (r < 256) ⌝ }
+{
+    x as u64
+}
+
+// The key of each row: label code, mark and number of children, byte by byte.
+fn make_keys(code: &[u32], mark: &[u8], count: &[u16], n: usize, key: &mut [u64])
+    requires { ⌜ Keyable (now code) (now mark) (now count) n (now key) ⌝ }
+    ensures { λ _. ⌜ Keys (now (code .entry)) (now (mark .entry)) (now (count .entry)) n (now (key .exit)) ⌝ }
+{
+    let mut i: usize = 0;
+    while i < n {
+        let l = bytes_of(wide(code[i]));
+        let m = wide8(mark[i]);
+        let c = bytes_of(link(count, i) as u64);
+        key[i] = (l * 256 + m) * 16777216 + c;
+        i += 1;
+    }
+}
+
+// Lays the forest at c out from row `at` on, its brothers below row u, and returns the first row behind it.
+fn lay(first: &[u16], next: &[u16], c: usize, u: usize, at: usize, row: &mut [u16], up: &mut [u16], span: &mut [u16]) -> usize
+    requires { ⌜ Roomy (now first) (now next) c u at (now row) (now up) (now span) ⌝ }
+    ensures { λ r. ⌜ Laid (now (first .entry)) (now (next .entry)) c u at (now (row .entry)) (now (up .entry)) (now (span .entry)) (now (row .exit)) (now (up .exit)) (now (span .exit)) r ⌝ }
+{
+    let n = next.len();
+    if n <= c {
+        return at;
+    }
+    set_link(row, at, c);
+    set_link(up, at, u);
+    let k = link(first, c);
+    let e = lay(first, next, k, at, at + 1, row, up, span);
+    set_link(span, at, e - at);
+    let q = link(next, c);
+    lay(first, next, q, u, e, row, up, span)
+}
+
+// Gives each of the n rows what its row of the table bears.
+fn bear(row: &[u16], code: &[u32], mark: &[u8], count: &[u16], n: usize, out_code: &mut [u32], out_mark: &mut [u8], kids: &mut [u16])
+    requires { ⌜ Bearing (now row) (now code) (now mark) (now count) n (now «out_code») (now «out_mark») (now kids) ⌝ }
+    ensures { λ _. ⌜ Borne (now (row .entry)) (now (code .entry)) (now (mark .entry)) (now (count .entry)) n (now («out_code» .exit)) (now («out_mark» .exit)) (now (kids .exit)) ⌝ }
+{
+    let mut i: usize = 0;
+    while i < n {
+        let c = link(row, i);
+        out_code[i] = code[c];
+        out_mark[i] = mark[c];
+        let k = link(count, c);
+        set_link(kids, i, k);
+        i += 1;
+    }
+}
+
+// The tree of the first n rows of a table as rows in image order. parent[i] is the row of i's parent, 65535 at the top; the slices from `first` to
+// `row` are lent to work in, and what they are left with means nothing.
+pub fn image_rows(
+    parent: &[u16],
+    code: &[u32],
+    mark: &[u8],
+    n: usize,
+    first: &mut [u16],
+    next: &mut [u16],
+    count: &mut [u16],
+    key: &mut [u64],
+    row: &mut [u16],
+    out_code: &mut [u32],
+    out_mark: &mut [u8],
+    kids: &mut [u16],
+    span: &mut [u16],
+    up: &mut [u16],
+)
+    requires { ⌜ Table (now parent) (now code) (now mark) n × Room n (now first) (now next) (now count) (now key) (now row) (now «out_code») (now «out_mark») (now kids) (now span) (now up) ⌝ }
+    ensures { λ _. ⌜ Rows (now («out_code» .exit)) (now («out_mark» .exit)) (now (kids .exit)) (now (span .exit)) (now (up .exit)) n × (treeRows (now («out_code» .exit)) (now («out_mark» .exit)) (now (span .exit)) n ≡ ordered (tableTree (now (parent .entry)) (now (code .entry)) (now (mark .entry)) n)) ⌝ }
+{
+    clear(n, first, count);
+    gather(parent, n, first, next, count);
+    make_keys(code, mark, count, n, key);
+    let top = link(first, n);
+    let q = in_order(first, next, key, top);
+    lay(first, next, q, 65535, 0, row, up, span);
+    bear(row, code, mark, count, n, out_code, out_mark, kids);
 }
