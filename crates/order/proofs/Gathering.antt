@@ -41,7 +41,7 @@ slot-inj n x p h (inr a) (inr b) e = a ∙ sym b
 
 -- ------------------------------------------------------------------ clearing
 pub empty-more : (i : ℕ) (fs count : List ℕ) → Empty i fs count → i < length fs → i < length count → (fs′ count′ : List ℕ)
-  → fs′ ≡ set fs i noRow → count′ ≡ set count i 0 → Empty (i + 1) fs′ count′
+    → fs′ ≡ set fs i noRow → count′ ≡ set count i 0 → Empty (i + 1) fs′ count′
 empty-more i fs count h lf lc fs′ count′ ef ec p l = rw (ef, ec) (go (ℕ-discrete p i))
   where
     go : Dec (p ≡ i) → (getD (set fs i noRow) p 0 ≡ noRow) × (getD (set count i 0) p 0 ≡ 0)
@@ -65,10 +65,16 @@ gathered-none parent n fs ns count short h =
     }
 
 pub slots-kept : (parent : List ℕ) (n : ℕ) (fs ns count fs′ ns′ count′ : List ℕ) → Slots parent n fs ns count
-  → length fs′ ≡ length fs → length ns′ ≡ length ns → length count′ ≡ length count → Slots parent n fs′ ns′ count′
+    → length fs′ ≡ length fs → length ns′ ≡ length ns → length count′ ≡ length count → Slots parent n fs′ ns′ count′
 slots-kept parent n fs ns count fs′ ns′ count′ w ef en ec = record {
-    few = w .few; parents = w .parents; firsts = rw ef (w .firsts); nexts = rw en (w .nexts); short = rw en (w .short); counts = rw ec (w .counts); known = w .known;
-  }
+  few = w .few;
+  parents = w .parents;
+  firsts = rw ef (w .firsts);
+  nexts = rw en (w .nexts);
+  short = rw en (w .short);
+  counts = rw ec (w .counts);
+  known = w .known;
+}
 
 module _ (parent : List ℕ) (n i : ℕ) (fs ns count : List ℕ) (w : Slots parent n fs ns count) (pos : 0 < i) (le : i ≤ n) (G : Gathered parent n i fs ns count)
     (p : ℕ) (ep : p ≡ slotOf n (getD parent (i - 1) 0)) where
@@ -103,23 +109,28 @@ module _ (parent : List ℕ) (n i : ℕ) (fs ns count : List ℕ) (w : Slots par
 
     pub gathered-turn : Gathered parent n (i - 1) fs′ ns′ count′
     gathered-turn = record {
-        lists = λ x kx. rw (ef, en) (list x kx (same-slot x kx (ℕ-discrete (slotOf n x) p)));
-        counts = λ x kx. rw ec (number x kx (same-slot x kx (ℕ-discrete (slotOf n x) p)));
-      }
+      lists = λ x kx. rw (ef, en) (list x kx (same-slot x kx (ℕ-discrete (slotOf n x) p)));
+      counts = λ x kx. rw ec (number x kx (same-slot x kx (ℕ-discrete (slotOf n x) p)));
+    }
       where
         lj : j < length ns
         lj = omega (arith, w .nexts)
+
         list : (x : ℕ) → Known n x → ((x ≡ q) × (slotOf n x ≡ p)) ⊎ ((q ≡ x → ⊥) × (slotOf n x ≡ p → ⊥))
-          → Run (set ns j h) j (getD (set fs p j) (slotOf n x) 0) (childrenOf x parent (n - j) j)
+            → Run (set ns j h) j (getD (set fs p j) (slotOf n x) 0) (childrenOf x parent (n - j) j)
         list x kx (inl (e, s)) =
-            rw (opened x true (eq-eqb q x (sym e)), s, getD-set-same fs p j 0 (slot-fits .0))
-            (refl, omega arith, rw (length-set ns j h) lj,
-              rw (getD-set-same ns j h 0 lj, eh) (run-set ns j (getD fs p 0) (getD fs p 0) (childrenOf x parent (n - i) i) (rw suc-j (rw s at (G .lists x kx)))))
+            rw (opened x true (eq-eqb q x (sym e)), s, getD-set-same fs p j 0 (slot-fits .0)) (
+              refl,
+              omega arith,
+              rw (length-set ns j h) lj,
+              rw (getD-set-same ns j h 0 lj, eh) (run-set ns j (getD fs p 0) (getD fs p 0) (childrenOf x parent (n - i) i) (rw suc-j (rw s at (G .lists x kx)))),
+            )
         list x kx (inr (d, s)) =
             rw (opened x false (ne-eqb q x d), getD-set-other fs p (slotOf n x) j 0 s)
             (run-set ns j h (getD fs (slotOf n x) 0) (childrenOf x parent (n - i) i) (rw suc-j (G .lists x kx)))
+
         number : (x : ℕ) → Known n x → ((x ≡ q) × (slotOf n x ≡ p)) ⊎ ((q ≡ x → ⊥) × (slotOf n x ≡ p → ⊥))
-          → getD (set count p (k + 1)) (slotOf n x) 0 ≡ length (childrenOf x parent (n - j) j)
+            → getD (set count p (k + 1)) (slotOf n x) 0 ≡ length (childrenOf x parent (n - j) j)
         number x kx (inl (e, s)) =
             let z : getD count p 0 ≡ length (childrenOf x parent (n - i) i) = rw s at (G .counts x kx) in
             rw (opened x true (eq-eqb q x (sym e)), s, getD-set-same count p (k + 1) 0 (slot-fits .1)) (omega arith)
@@ -135,18 +146,19 @@ unfolding written
 written-two x h g = (sym (rw (le-ltb x 128 h, lt-ltb x 16384 g)), omega arith)
 
 pub written-three : (x : ℕ) → 16384 ≤ x → x < 2097152
-  → (65536 * (128 + x % 128) + 256 * (128 + x / 128 % 128) + x / 16384 ≡ written x) × (65536 * (128 + x % 128) + 256 * (128 + x / 128 % 128) + x / 16384 < 16777216)
+    → (65536 * (128 + x % 128) + 256 * (128 + x / 128 % 128) + x / 16384 ≡ written x) × (65536 * (128 + x % 128) + 256 * (128 + x / 128 % 128) + x / 16384 < 16777216)
 unfolding written
 written-three x h g = let z : 128 ≤ x = omega arith in (sym (rw (le-ltb x 128 z, le-ltb x 16384 h)), omega arith)
 
 pub keys-more : (code mark count key : List ℕ) (i : ℕ) → i < length key → Keys code mark count i key
-  → (l m c : ℕ) → l ≡ written (getD code i 0) → m ≡ getD mark i 0 → c ≡ written (getD count i 0)
-  → Keys code mark count (i + 1) (set key i ((l * 256 + m) * 16777216 + c))
+    → (l m c : ℕ) → l ≡ written (getD code i 0) → m ≡ getD mark i 0 → c ≡ written (getD count i 0)
+    → Keys code mark count (i + 1) (set key i ((l * 256 + m) * 16777216 + c))
 unfolding keyOf
 keys-more code mark count key i li w l m c el em ec x lx = go (ℕ-discrete x i)
   where
     v : ℕ
     v = (l * 256 + m) * 16777216 + c
+
     go : Dec (x ≡ i) → getD (set key i v) x 0 ≡ (written (getD code x 0) * 256 + getD mark x 0) * 16777216 + written (getD count x 0)
     go (yes e) = rw (e, getD-set-same key i v 0 li, el, em, ec)
     go (no d) = getD-set-other key i x v 0 d ∙ w x (omega arith)
@@ -154,7 +166,7 @@ keys-more code mark count key i li w l m c el em ec x lx = go (ℕ-discrete x i)
 -- ------------------------------------------------------------------ what the lists hold
 module _ (parent : List ℕ) (n : ℕ) (lev : ℕ → ℕ) (L : Levels parent n lev) (fs ns count : List ℕ) (G : Gathered parent n 0 fs ns count) (nexts : n ≤ length ns) where
   run-linked : (m p b : ℕ) (js : List ℕ) (c : ℕ) → ((j : ℕ) → j < n → getD parent j 0 ≡ p → Linked fs ns (getD fs j 0) (grown m parent n j))
-    → Children parent p n b js → Run ns 0 c js → Linked fs ns c (plant (λ j. j) (grown m parent n) js)
+      → Children parent p n b js → Run ns 0 c js → Linked fs ns c (plant (λ j. j) (grown m parent n) js)
   run-linked m p b [] c g k r = r
   run-linked m p b (j ∷ js) c g (l, u, e, k) (ec, z, lj, r) = (ec, lj, g j u e, run-linked m p (suc j) js (getD ns j 0) g k r)
 
@@ -165,8 +177,8 @@ module _ (parent : List ℕ) (n : ℕ) (lev : ℕ → ℕ) (L : Levels parent n 
   linked-grown (suc m) p kp h =
       let z : n - 0 ≡ n = omega arith in
       run-linked m p 0 (childrenOf p parent n 0) (getD fs (slotOf n p) 0)
-        (λ j lj e. let s = L .step j lj .0 in let y = ap lev e in rw (← slot-row n j lj) at (linked-grown m j (inl lj) (omega arith)))
-        (all-children parent n p) (rw z at (G .lists p kp))
+      (λ j lj e. let s = L .step j lj .0 in let y = ap lev e in rw (← slot-row n j lj) at (linked-grown m j (inl lj) (omega arith)))
+      (all-children parent n p) (rw z at (G .lists p kp))
 
   -- at the last slot the whole tree is read
   pub reads-grown : (forestAt fs ns (getD fs n 0) ≡ grown (suc n) parent n noRow) × Finite fs ns (getD fs n 0) × Apart (forestAt fs ns (getD fs n 0))

@@ -30,7 +30,7 @@ children-of parent p e zero b h = tt
 children-of parent p e (suc k) b h = go (eqb (getD parent b 0) p) refl (children-of parent p e k (suc b) (omega arith))
   where
     go : (t : Bool) → eqb (getD parent b 0) p ≡ t → Children parent p e (suc b) (childrenOf p parent k (suc b))
-      → Children parent p e b (cond t (b ∷ childrenOf p parent k (suc b)) (childrenOf p parent k (suc b)))
+        → Children parent p e b (cond t (b ∷ childrenOf p parent k (suc b)) (childrenOf p parent k (suc b)))
     go true x ih = (omega arith, omega arith, eqb-true (getD parent b 0) p x, ih)
     go false x ih = children-from parent p e (suc b) b (childrenOf p parent k (suc b)) (omega arith) ih
 
@@ -48,7 +48,7 @@ of-children parent p zero b i l m e = absurd (omega arith)
 of-children parent p (suc k) b i l m e = go (ℕ-discrete i b) (eqb (getD parent b 0) p) refl (λ x. of-children parent p k (suc b) i x (omega arith) e)
   where
     go : Dec (i ≡ b) → (t : Bool) → eqb (getD parent b 0) p ≡ t → (suc b ≤ i → Of i (childrenOf p parent k (suc b)))
-      → Of i (cond t (b ∷ childrenOf p parent k (suc b)) (childrenOf p parent k (suc b)))
+        → Of i (cond t (b ∷ childrenOf p parent k (suc b)) (childrenOf p parent k (suc b)))
     go (yes q) true x ih = inl q
     go (yes q) false x ih = absurd (eqb-false (getD parent b 0) p x (ap (λ (z : ℕ). getD parent z 0) (sym q) ∙ e))
     go (no q) true x ih = inr (ih (omega arith))
@@ -214,7 +214,8 @@ module _ (parent : List ℕ) (n : ℕ) (lev : ℕ → ℕ) (L : Levels parent n 
     (λ h. apart-from p (suc j) j j js e u (omega arith) k (inl refl) (in-plant m js j (λ i. in-grown m i j) h)),
     (λ x h h′. apart-from p (suc j) j x js e u (omega arith) k (inr (in-grown m j x h)) (in-plant m js x (λ i. in-grown m i x) h′)),
     g j,
-    apart-plant m p (suc j) js g k)
+    apart-plant m p (suc j) js g k,
+  )
 
   pub apart-grown : (m p : ℕ) → Apart (grown m parent n p)
   unfolding grown
@@ -247,7 +248,7 @@ module _ (parent : List ℕ) (n : ℕ) (lev : ℕ → ℕ) (L : Levels parent n 
   way-in (suc t) x y l h (inr (inl m)) = let s = L .step x l in let z = s .0 in go z (s .1) (λ q. way-in t (getD parent x 0) y q (omega arith) m)
     where
       go : lev x ≡ suc (lev (getD parent x 0)) → (getD parent x 0 < n) ⊎ (getD parent x 0 ≡ noRow) → (getD parent x 0 < n → (y < n) × (lev y ≤ lev (getD parent x 0)))
-        → (y < n) × (lev y ≤ lev x)
+          → (y < n) × (lev y ≤ lev x)
       go z (inl q) ih = let i = ih q in (i .0, omega (arith, i .1))
       go z (inr q) ih = let i = ap lev q in let j = L .ends in absurd (omega arith)
 
@@ -282,7 +283,7 @@ module _ (parent : List ℕ) (n : ℕ) (lev : ℕ → ℕ) (L : Levels parent n 
   anc-row (suc s) x l h = let i = anc-row s x l (omega arith) in let q = L .step (anc s x) (i .0) in go (i .1) (q .0) (q .1)
     where
       go : lev (anc s x) + s ≡ lev x → lev (anc s x) ≡ suc (lev (anc (suc s) x)) → (anc (suc s) x < n) ⊎ (anc (suc s) x ≡ noRow)
-        → (anc (suc s) x < n) × (lev (anc (suc s) x) + suc s ≡ lev x)
+          → (anc (suc s) x < n) × (lev (anc (suc s) x) + suc s ≡ lev x)
       go a b (inl q) = (q, omega arith)
       go a b (inr q) = let i = ap lev q in let j = L .ends in absurd (omega arith)
 
@@ -294,7 +295,7 @@ module _ (parent : List ℕ) (n : ℕ) (lev : ℕ → ℕ) (L : Levels parent n 
   grown-in (suc t) (suc m) x l h g =
       let i = anc-row (suc t) x l h .0 in
       of-plant m (anc (suc t) x) x (childrenOf (anc (suc (suc t)) x) parent n 0)
-        (of-children parent (anc (suc (suc t)) x) n 0 (anc (suc t) x) (omega arith) (omega arith) refl) (inr (grown-in t m x l (omega arith) (omega arith)))
+      (of-children parent (anc (suc (suc t)) x) n 0 (anc (suc t) x) (omega arith) (omega arith) refl) (inr (grown-in t m x l (omega arith) (omega arith)))
 
   all-in : (x : ℕ) → x < n → In x (grown (suc n) parent n noRow)
   all-in x l =

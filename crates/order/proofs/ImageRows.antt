@@ -32,7 +32,8 @@ module _ (parent code mark : List ℕ) (n : ℕ) (first next count key row code�
     known i l (no d) = inl (T .linked i l d .0)
 
     pub slots : Slots parent n fs₁ next count₁ × Empty (n + 1) fs₁ count₁
-    slots = (record {
+    slots = (
+      record {
         few = T .few;
         parents = T .parents;
         firsts = rw lf₁ (R .firsts);
@@ -40,7 +41,9 @@ module _ (parent code mark : List ℕ) (n : ℕ) (first next count key row code�
         short = R .short;
         counts = rw lc₁ (R .counts);
         known = λ i l. known i l (ℕ-discrete (getD parent i 0) noRow);
-      }, E)
+      },
+      E,
+    )
 
     -- -------------------------------------------------------------- gather
     module _ (fs₂ ns₂ count₂ : List ℕ) (G : Gathered parent n 0 fs₂ ns₂ count₂) (lf₂ : length fs₂ ≡ length fs₁) (ln₂ : length ns₂ ≡ length next) (lc₂ : length count₂ ≡ length count₁) where
@@ -104,9 +107,10 @@ module _ (parent code mark : List ℕ) (n : ℕ) (first next count key row code�
 
             -- ------------------------------------------------------ bear
             pub finished : (code₆ mark₆ kids₆ : List ℕ) → Borne row₅ code mark count₂ n code₆ mark₆ kids₆
-              → length code₆ ≡ length code′ → length mark₆ ≡ length mark′ → length kids₆ ≡ length kids
-              → Rows code₆ mark₆ kids₆ span₅ up₅ n × (treeRows code₆ mark₆ span₅ n ≡ ordered (tableTree parent code mark n))
+                → length code₆ ≡ length code′ → length mark₆ ≡ length mark′ → length kids₆ ≡ length kids
+                → Rows code₆ mark₆ kids₆ span₅ up₅ n × (treeRows code₆ mark₆ span₅ n ≡ ordered (tableTree parent code mark n))
             finished code₆ mark₆ kids₆ B lc lm lk = (
               are-rows parent code mark n T fs₂ ns₂ count₂ G key₃ K row₅ up₅ span₅ code₆ mark₆ kids₆ shows B (omega (arith, lc, R .outCodes)) (omega (arith, lm, R .outMarks))
-                (omega (arith, lk, R .outKids)) (omega (arith, A .spans, R .outSpans)) (omega (arith, A .ups, R .outUps)),
-              tree-rows parent code mark n T fs₂ ns₂ count₂ G key₃ K row₅ up₅ span₅ code₆ mark₆ kids₆ shows B)
+                  (omega (arith, lk, R .outKids)) (omega (arith, A .spans, R .outSpans)) (omega (arith, A .ups, R .outUps)),
+              tree-rows parent code mark n T fs₂ ns₂ count₂ G key₃ K row₅ up₅ span₅ code₆ mark₆ kids₆ shows B,
+            )

@@ -15,11 +15,14 @@ use Rattle.order.proofs.Links.{read-is, finite-of, read-none, Opens, op
 
 -- ------------------------------------------------------------------ links that are kept
 pub kept : (fs ns fs′ ns′ : List ℕ) → length ns′ ≡ length ns → (F : Forest ℕ) (c : ℕ)
-  → ((j : ℕ) → In j F → (getD fs′ j 0 ≡ getD fs j 0) × (getD ns′ j 0 ≡ getD ns j 0)) → Linked fs ns c F → Linked fs′ ns′ c F
+    → ((j : ℕ) → In j F → (getD fs′ j 0 ≡ getD fs j 0) × (getD ns′ j 0 ≡ getD ns j 0)) → Linked fs ns c F → Linked fs′ ns′ c F
 kept fs ns fs′ ns′ len bare c same h = rw len h
-kept fs ns fs′ ns′ len (tree i k r) c same (e, l, hk, hr) =
-    (e, rw len l, rw (same i (inl refl) .0) (kept fs ns fs′ ns′ len k (getD fs i 0) (λ j m. same j (inr (inl m))) hk),
-      rw (same i (inl refl) .1) (kept fs ns fs′ ns′ len r (getD ns i 0) (λ j m. same j (inr (inr m))) hr))
+kept fs ns fs′ ns′ len (tree i k r) c same (e, l, hk, hr) = (
+  e,
+  rw len l,
+  rw (same i (inl refl) .0) (kept fs ns fs′ ns′ len k (getD fs i 0) (λ j m. same j (inr (inl m))) hk),
+  rw (same i (inl refl) .1) (kept fs ns fs′ ns′ len r (getD ns i 0) (λ j m. same j (inr (inr m))) hr),
+)
 
 pub in-lt : (fs ns : List ℕ) (F : Forest ℕ) (c j : ℕ) → Linked fs ns c F → In j F → j < length ns
 in-lt fs ns bare c j h m = absurd m
@@ -35,7 +38,7 @@ module _ (key : List ℕ) (c : ℕ) (K : Forest ℕ) where
   in-place (tree b l r) j m = go (in-place r j) (upTo (cmpT key c K b l)) m
     where
       go : (In j (placeBy key c K r) → (j ≡ c) ⊎ In j K ⊎ In j r) → (t : Bool)
-        → In j (cond t (tree c K (tree b l r)) (tree b l (placeBy key c K r))) → (j ≡ c) ⊎ In j K ⊎ In j (tree b l r)
+          → In j (cond t (tree c K (tree b l r)) (tree b l (placeBy key c K r))) → (j ≡ c) ⊎ In j K ⊎ In j (tree b l r)
       go ih true x = x
       go ih false (inl x) = inr (inr (inl x))
       go ih false (inr (inl x)) = inr (inr (inr (inl x)))
@@ -69,6 +72,7 @@ module _ (key : List ℕ) (c : ℕ) (K : Forest ℕ) where
           one (inl e) = cq (inl (sym e))
           one (inr (inl m)) = kq b m (inl refl)
           one (inr (inr m)) = br m
+
           two : (j : ℕ) → In j l → (j ≡ c) ⊎ In j K ⊎ In j r → ⊥
           two j m (inl e) = cq (inr (inl (rw e at m)))
           two j m (inr (inl x)) = kq j x (inr (inl m))
@@ -93,28 +97,37 @@ module _ (fs ns key : List ℕ) (c : ℕ) (K : Forest ℕ) (lc : c < length ns) 
       go (upTo (cmpT key c K b l)) (lands r (getD ns b 0) b hr ar (λ m. cQ (inr (inr m))) (λ j m m′. kQ j m (inr (inr m′))))
     where
       go : (t : Bool) → Lands (getD ns b 0) b r (spotOf key c K b r)
-        → ((cond t p₀ (spotOf key c K b r) ≡ p₀) × (cond t (tree c K (tree b l r)) (tree b l (placeBy key c K r)) ≡ tree c K (tree b l r)))
+          → ((cond t p₀ (spotOf key c K b r) ≡ p₀) × (cond t (tree c K (tree b l r)) (tree b l (placeBy key c K r)) ≡ tree c K (tree b l r)))
           ⊎ (In (cond t p₀ (spotOf key c K b r)) (tree b l r)
-             × Linked fs (set (set ns c (getD ns (cond t p₀ (spotOf key c K b r)) 0)) (cond t p₀ (spotOf key c K b r)) c) q (cond t (tree c K (tree b l r)) (tree b l (placeBy key c K r))))
+          × Linked fs (set (set ns c (getD ns (cond t p₀ (spotOf key c K b r)) 0)) (cond t p₀ (spotOf key c K b r)) c) q (cond t (tree c K (tree b l r)) (tree b l (placeBy key c K r))))
       go true ih = inl (refl, refl)
       go false (inl (ep, er)) =
-          inr (inl ep, rw (ep, er) (
-            e,
-            rw (length-set (set ns c (getD ns b 0)) b c, length-set ns c (getD ns b 0)) lb,
-            other fs ns c b (getD ns b 0) c (getD fs b 0) l (λ m. cQ (inr (inl m))) bl hl,
-            rw (getD-set-same (set ns c (getD ns b 0)) b c 0 (rw (length-set ns c (getD ns b 0)) lb)) (
-              refl,
-              rw (length-set (set ns c (getD ns b 0)) b c, length-set ns c (getD ns b 0)) lc,
-              other fs ns c b (getD ns b 0) c (getD fs c 0) K cK (λ m. kQ b m (inl refl)) hK,
-              rw (getD-set-other (set ns c (getD ns b 0)) b c c 0 (λ x. cQ (inl x)), getD-set-same ns c (getD ns b 0) 0 lc)
-                (other fs ns c b (getD ns b 0) c (getD ns b 0) r (λ m. cQ (inr (inr m))) br hr))))
+          inr (
+            inl ep,
+            rw (ep, er) (
+              e,
+              rw (length-set (set ns c (getD ns b 0)) b c, length-set ns c (getD ns b 0)) lb,
+              other fs ns c b (getD ns b 0) c (getD fs b 0) l (λ m. cQ (inr (inl m))) bl hl,
+              rw (getD-set-same (set ns c (getD ns b 0)) b c 0 (rw (length-set ns c (getD ns b 0)) lb)) (
+                refl,
+                rw (length-set (set ns c (getD ns b 0)) b c, length-set ns c (getD ns b 0)) lc,
+                other fs ns c b (getD ns b 0) c (getD fs c 0) K cK (λ m. kQ b m (inl refl)) hK,
+                rw (getD-set-other (set ns c (getD ns b 0)) b c c 0 (λ x. cQ (inl x)), getD-set-same ns c (getD ns b 0) 0 lc)
+                    (other fs ns c b (getD ns b 0) c (getD ns b 0) r (λ m. cQ (inr (inr m))) br hr),
+              ),
+            ),
+          )
       go false (inr (m, h)) =
           let p = spotOf key c K b r in
-          inr (inr (inr m), (
-            e,
-            rw (length-set (set ns c (getD ns p 0)) p c, length-set ns c (getD ns p 0)) lb,
-            other fs ns c p (getD ns p 0) c (getD fs b 0) l (λ x. cQ (inr (inl x))) (λ x. lr p x m) hl,
-            rw (getD-set-other (set ns c (getD ns p 0)) p b c 0 (λ x. br (rw x m)), getD-set-other ns c b (getD ns p 0) 0 (λ x. cQ (inl (sym x)))) h))
+          inr (
+            inr (inr m),
+            (
+              e,
+              rw (length-set (set ns c (getD ns p 0)) p c, length-set ns c (getD ns p 0)) lb,
+              other fs ns c p (getD ns p 0) c (getD fs b 0) l (λ x. cQ (inr (inl x))) (λ x. lr p x m) hl,
+              rw (getD-set-other (set ns c (getD ns p 0)) p b c 0 (λ x. br (rw x m)), getD-set-other ns c b (getD ns p 0) 0 (λ x. cQ (inl (sym x)))) h,
+            ),
+          )
 
 module _ (fs ns key : List ℕ) (c q : ℕ) (w : Ready fs ns key c q) (p : ℕ) (ep : p ≡ spotOf key c (forestAt fs ns (getD fs c 0)) (length ns) (forestAt fs ns q)) where
   abbrev K : Forest ℕ
@@ -127,7 +140,7 @@ module _ (fs ns key : List ℕ) (c q : ℕ) (w : Ready fs ns key c q) (p : ℕ) 
   landed = rw ep (lands fs ns key c K (w .inside) (w .kids .holds) (w .apart .0) Q q (length ns) (w .list .holds) (w .apart .4) (w .apart .1) (w .apart .2))
 
   built : (ns′ : List ℕ) (r : ℕ) → r < 65536 → length ns′ ≡ length ns → Linked fs ns′ r (placeBy key c K Q)
-    → ((j : ℕ) → (j ≡ c → ⊥) → (In j Q → ⊥) → getD ns′ j 0 ≡ getD ns j 0) → Placed fs ns key c q ns′ r
+      → ((j : ℕ) → (j ≡ c → ⊥) → (In j Q → ⊥) → getD ns′ j 0 ≡ getD ns j 0) → Placed fs ns key c q ns′ r
   built ns′ r low len h rest =
       let s : size (placeBy key c K Q) ≤ length ns′ = rw (size-place key c K Q, len) (w .room) in
       record { reads = read-is fs ns′ r (placeBy key c K Q) h s; finite = finite-of fs ns′ r (placeBy key c K Q) h s; low = low; nexts = len; rest = rest }
@@ -137,10 +150,11 @@ module _ (fs ns key : List ℕ) (c q : ℕ) (w : Ready fs ns key c q) (p : ℕ) 
     where
       go : Lands fs ns key c K (w .inside) (w .kids .holds) (w .apart .0) q (length ns) Q p → Placed fs ns key c q ns′ c
       go (inl (x, y)) = rw e (built (set ns c q) c (omega (arith, w .inside, w .short)) (length-set ns c q) (rw y (
-          refl,
-          rw (length-set ns c q) (w .inside),
-          kept fs ns fs (set ns c q) (length-set ns c q) K (getD fs c 0) (λ j m. (refl, getD-set-other ns c j q 0 (λ x′. w .apart .0 (rw x′ at m)))) (w .kids .holds),
-          rw (getD-set-same ns c q 0 (w .inside)) (kept fs ns fs (set ns c q) (length-set ns c q) Q q (λ j m. (refl, getD-set-other ns c j q 0 (λ x′. w .apart .1 (rw x′ at m)))) (w .list .holds))))
+        refl,
+        rw (length-set ns c q) (w .inside),
+        kept fs ns fs (set ns c q) (length-set ns c q) K (getD fs c 0) (λ j m. (refl, getD-set-other ns c j q 0 (λ x′. w .apart .0 (rw x′ at m)))) (w .kids .holds),
+        rw (getD-set-same ns c q 0 (w .inside)) (kept fs ns fs (set ns c q) (length-set ns c q) Q q (λ j m. (refl, getD-set-other ns c j q 0 (λ x′. w .apart .1 (rw x′ at m)))) (w .list .holds)),
+      ))
           (λ j jc jq. getD-set-other ns c j q 0 jc))
       go (inr (m, y)) = absurd (omega (arith, in-lt fs ns Q q p (w .list .holds) m))
 
@@ -257,7 +271,8 @@ module _ (fs ns key : List ℕ) (c : ℕ) (w : Loose fs ns key c) (l : c < lengt
         finite = finite-of fs₂ ns₁ j R₀ beside (rw (O₁ .nexts) (o .along .small));
         apart = rw reads-j (all-apart .4);
       },
-      rw reads-j (o .along-less))
+      rw reads-j (o .along-less),
+    )
 
     module _ (fs₃ ns₃ : List ℕ) (q : ℕ) (O₂ : Ordered fs₂ ns₁ key j fs₃ ns₃ q) where
       rest₂ : (x : ℕ) → (In x R₀ → ⊥) → (getD fs₃ x 0 ≡ getD fs₂ x 0) × (getD ns₃ x 0 ≡ getD ns₁ x 0)
@@ -275,7 +290,7 @@ module _ (fs ns key : List ℕ) (c : ℕ) (w : Loose fs ns key c) (l : c < lengt
       under : Linked fs₃ ns₃ k (orderedBy key K₀)
       under = kept fs₁ ns₁ fs₃ ns₃ (O₂ .nexts) (orderedBy key K₀) k
           (λ x m. let y = in-orderedBy key K₀ x m in let z = rest₂ x (λ u. all-apart .2 x y u) in
-            (z .0 ∙ rw e₂ (getD-set-other fs₁ c x k 0 (λ u. all-apart .0 (rw u at y))), z .1))
+          (z .0 ∙ rw e₂ (getD-set-other fs₁ c x k 0 (λ u. all-apart .0 (rw u at y))), z .1))
           (rw reads-k at (O₁ .finite .holds))
 
       small-k : size (orderedBy key K₀) ≤ length ns₃
@@ -307,8 +322,9 @@ module _ (fs ns key : List ℕ) (c : ℕ) (w : Loose fs ns key c) (l : c < lengt
         firsts = O₂ .firsts ∙ len₂;
         nexts = P .nexts ∙ len₃;
         rest = λ x m. let y : In x (tree c K₀ R₀) → ⊥ = rw (o .reads) at m in
-          let a = rest₁ x (λ u. y (inr (inl u))) in
-          let b = rest₂ x (λ u. y (inr (inr u))) in
-          (b .0 ∙ rw e₂ (getD-set-other fs₁ c x k 0 (λ u. y (inl u))) ∙ a .0,
-            P .rest x (λ u. y (inl u)) (λ u. y (inr (inr (in-orderedBy key R₀ x (rw list-is at u))))) ∙ b .1 ∙ a .1);
+            let a = rest₁ x (λ u. y (inr (inl u))) in
+            let b = rest₂ x (λ u. y (inr (inr u))) in (
+              b .0 ∙ rw e₂ (getD-set-other fs₁ c x k 0 (λ u. y (inl u))) ∙ a .0,
+              P .rest x (λ u. y (inl u)) (λ u. y (inr (inr (in-orderedBy key R₀ x (rw list-is at u))))) ∙ b .1 ∙ a .1,
+            );
       }

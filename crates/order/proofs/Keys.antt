@@ -44,7 +44,7 @@ three a b = go (decLt a b) (decLt b a)
 
 -- two numbers in one
 pub pair : (a a′ b b′ X Y : ℕ) → (a < a′ → X < Y) → (a′ < a → Y < X) → (a ≡ a′ → b < b′ → X < Y) → (a ≡ a′ → b′ < b → Y < X) → (a ≡ a′ → b ≡ b′ → X ≡ Y)
-  → cmpN X Y ≡ thenBy (cmpN a a′) (cmpN b b′)
+    → cmpN X Y ≡ thenBy (cmpN a a′) (cmpN b b′)
 pair a a′ b b′ X Y p q r s t = go (three a a′) (three b b′)
   where
     go : Three a a′ → Three b b′ → cmpN X Y ≡ thenBy (cmpN a a′) (cmpN b b′)
@@ -96,8 +96,8 @@ bytes n l = go (decLt n 128) (decLt n 16384)
         let x : 128 ≤ n / 128 = omega arith in
         let q : n / 128 / 128 ≡ n / 16384 = omega arith in
         thr a′ l (more-bytes n n a ∙ ap (λ (z : List ℕ). (128 + n % 128) ∷ z) (fuel n (n / 128) b ∙ more-bytes (n - 1) (n / 128) x
-            ∙ ap (λ (z : List ℕ). (128 + n / 128 % 128) ∷ z) (fuel (n - 1) (n / 128 / 128) b′ ∙ one-byte (n - 1 - 1) (n / 128 / 128) (omega arith) ∙ ap (λ (z : ℕ). z ∷ []) q)))
-          (rw (le-ltb n 128 a, le-ltb n 16384 a′))
+        ∙ ap (λ (z : List ℕ). (128 + n / 128 % 128) ∷ z) (fuel (n - 1) (n / 128 / 128) b′ ∙ one-byte (n - 1 - 1) (n / 128 / 128) (omega arith) ∙ ap (λ (z : ℕ). z ∷ []) q)))
+        (rw (le-ltb n 128 a, le-ltb n 16384 a′))
 
 pub same-order : (a b X Y : ℕ) → (a < b → X < Y) → (b < a → Y < X) → (a ≡ b → X ≡ Y) → cmpN X Y ≡ cmpN a b
 same-order a b X Y p q r = go (three a b)
@@ -158,9 +158,9 @@ num-cmp n m x y ln lm = go (bytes n ln) (bytes m lm)
         (pair (128 + n % 128) (128 + m % 128) (128 + n / 128 % 128) (m / 128) (written n) (written m) (λ h. omega arith) (λ h. omega arith) (λ h i. omega arith) (λ h i. omega arith) (λ h i. absurd (omega arith))))
     go (thr p q e w) (thr p′ q′ e′ w′) = rw (e, e′) (step3 (128 + n % 128) (128 + m % 128) (128 + n / 128 % 128) (128 + m / 128 % 128) (n / 16384) (m / 16384) (written n) (written m) x y
         (pair (128 + n % 128) (128 + m % 128) (256 * (128 + n / 128 % 128) + n / 16384) (256 * (128 + m / 128 % 128) + m / 16384) (written n) (written m)
-            (λ h. omega arith) (λ h. omega arith) (λ h i. omega arith) (λ h i. omega arith) (λ h i. omega arith)
-          ∙ ap (thenBy (cmpN (128 + n % 128) (128 + m % 128))) (pair (128 + n / 128 % 128) (128 + m / 128 % 128) (n / 16384) (m / 16384) (256 * (128 + n / 128 % 128) + n / 16384) (256 * (128 + m / 128 % 128) + m / 16384)
-            (λ h. omega arith) (λ h. omega arith) (λ h i. omega arith) (λ h i. omega arith) (λ h i. omega arith))))
+        (λ h. omega arith) (λ h. omega arith) (λ h i. omega arith) (λ h i. omega arith) (λ h i. omega arith)
+        ∙ ap (thenBy (cmpN (128 + n % 128) (128 + m % 128))) (pair (128 + n / 128 % 128) (128 + m / 128 % 128) (n / 16384) (m / 16384) (256 * (128 + n / 128 % 128) + n / 16384) (256 * (128 + m / 128 % 128) + m / 16384)
+        (λ h. omega arith) (λ h. omega arith) (λ h i. omega arith) (λ h i. omega arith) (λ h i. omega arith))))
 
 pub written-lt : (n : ℕ) → n < 2097152 → written n < 16777216
 written-lt n l = go (bytes n l)
@@ -215,7 +215,7 @@ module _ (l m c l′ m′ c′ : ℕ) (ll : l < 2097152) (lm : m < 128) (lc : c 
       let a = written-lt c lc in let a′ = written-lt c′ lc′ in
       pair (written l * 256 + m) (written l′ * 256 + m′) (written c) (written c′) (keyOf l m c) (keyOf l′ m′ c′) (λ h. omega arith) (λ h. omega arith) (λ h i. omega arith) (λ h i. omega arith) (λ h i. omega arith)
       ∙ ap (λ (z : Order). thenBy z (cmpN (written c) (written c′)))
-        (pair (written l) (written l′) m m′ (written l * 256 + m) (written l′ * 256 + m′) (λ h. omega arith) (λ h. omega arith) (λ h i. omega arith) (λ h i. omega arith) (λ h i. omega arith))
+      (pair (written l) (written l′) m m′ (written l * 256 + m) (written l′ * 256 + m′) (λ h. omega arith) (λ h. omega arith) (λ h i. omega arith) (λ h i. omega arith) (λ h i. omega arith))
       ∙ then-assoc (cmpN (written l) (written l′)) (cmpN m m′) (cmpN (written c) (written c′))
       ∙ ap (λ (z : Order). thenBy (cmpN (written l) (written l′)) (thenBy z (cmpN (written c) (written c′)))) (sym marks)
     where

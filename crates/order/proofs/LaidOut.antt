@@ -15,14 +15,17 @@ use Rattle.order.proofs.Links.{Opens, opens, read-none}
 
 -- rows that are kept show what they showed
 shows-kept : (row up span row′ up′ span′ : List ℕ) (u at : ℕ) (F : Forest ℕ)
-  → ((j : ℕ) → at ≤ j → j < at + size F → (getD row′ j 0 ≡ getD row j 0) × (getD up′ j 0 ≡ getD up j 0) × (getD span′ j 0 ≡ getD span j 0))
-  → Shows row up span u at F → Shows row′ up′ span′ u at F
+    → ((j : ℕ) → at ≤ j → j < at + size F → (getD row′ j 0 ≡ getD row j 0) × (getD up′ j 0 ≡ getD up j 0) × (getD span′ j 0 ≡ getD span j 0))
+    → Shows row up span u at F → Shows row′ up′ span′ u at F
 shows-kept row up span row′ up′ span′ u at bare h s = tt
 shows-kept row up span row′ up′ span′ u at (tree i k r) h (a, b, c, d, e) =
-    let z = h at (omega arith) (omega arith) in
-    (z .0 ∙ a, z .1 ∙ b, z .2 ∙ c,
+    let z = h at (omega arith) (omega arith) in (
+      z .0 ∙ a,
+      z .1 ∙ b,
+      z .2 ∙ c,
       shows-kept row up span row′ up′ span′ at (suc at) k (λ j l m. h j (omega arith) (omega arith)) d,
-      shows-kept row up span row′ up′ span′ u (suc at + size k) r (λ j l m. h j (omega arith) (omega arith)) e)
+      shows-kept row up span row′ up′ span′ u (suc at + size k) r (λ j l m. h j (omega arith) (omega arith)) e,
+    )
 
 -- ------------------------------------------------------------------ one call of lay
 pub laid-none : (fs ns : List ℕ) (c u at : ℕ) (row up span : List ℕ) → length ns ≤ c → Laid fs ns c u at row up span row up span at
@@ -90,42 +93,45 @@ module _ (fs ns : List ℕ) (c u at : ℕ) (row up span : List ℕ) (w : Roomy f
 
         pub laid-some : (row₃ up₃ span₄ : List ℕ) (r : ℕ) → Laid fs ns q u e row₂ up₂ span₃ row₃ up₃ span₄ r → Laid fs ns c u at row up span row₃ up₃ span₄ r
         laid-some row₃ up₃ span₄ r B = record {
-            end = B .end ∙ rw eq (omega (arith, end-is, whole));
-            shows = rw (o .reads) (
-              B .kept at at-e .0 ∙ A .kept at (omega arith) .0 ∙ rw er (getD-set-same row at c 0 (fits .0)),
-              B .kept at at-e .1 ∙ A .kept at (omega arith) .1 ∙ rw eu (getD-set-same up at u 0 (fits .1)),
-              B .kept at at-e .2 ∙ rw es (getD-set-same span₂ at (e - at) 0 (span-fits .0) ∙ (let z : e - at ≡ suc (size K) = omega (arith, end-is) in z)),
-              shows-kept row₂ up₂ span₂ row₃ up₃ span₄ at (suc at) K
+          end = B .end ∙ rw eq (omega (arith, end-is, whole));
+          shows = rw (o .reads) (
+            B .kept at at-e .0 ∙ A .kept at (omega arith) .0 ∙ rw er (getD-set-same row at c 0 (fits .0)),
+            B .kept at at-e .1 ∙ A .kept at (omega arith) .1 ∙ rw eu (getD-set-same up at u 0 (fits .1)),
+            B .kept at at-e .2 ∙ rw es (getD-set-same span₂ at (e - at) 0 (span-fits .0) ∙ (let z : e - at ≡ suc (size K) = omega (arith, end-is) in z)),
+            shows-kept row₂ up₂ span₂ row₃ up₃ span₄ at (suc at) K
                 (λ j lj mj. let z = B .kept j (omega (arith, end-is)) in (z .0, z .1, z .2 ∙ rw es (getD-set-other span₂ at j (e - at) 0 (λ x. omega arith))))
                 (rw (ek, add-one at) at (A .shows)),
-              rw (eq, end-is) at (B .shows));
-            kept = λ j lj.
+            rw (eq, end-is) at (B .shows),
+          );
+          kept = λ j lj.
               let z = B .kept j (omega (arith, end-is)) in
-              let y = A .kept j (omega arith) in
-              (z .0 ∙ y .0 ∙ rw er (getD-set-other row at j c 0 (λ x. omega arith)),
+              let y = A .kept j (omega arith) in (
+                z .0 ∙ y .0 ∙ rw er (getD-set-other row at j c 0 (λ x. omega arith)),
                 z .1 ∙ y .1 ∙ rw eu (getD-set-other up at j u 0 (λ x. omega arith)),
-                z .2 ∙ rw es (getD-set-other span₂ at j (e - at) 0 (λ x. omega arith)) ∙ y .2);
-            rows = B .rows ∙ A .rows ∙ len-row;
-            ups = B .ups ∙ A .ups ∙ len-up;
-            spans = B .spans ∙ len-span;
-          }
+                z .2 ∙ rw es (getD-set-other span₂ at j (e - at) 0 (λ x. omega arith)) ∙ y .2,
+              );
+          rows = B .rows ∙ A .rows ∙ len-row;
+          ups = B .ups ∙ A .ups ∙ len-up;
+          spans = B .spans ∙ len-span;
+        }
           where
             at-e : at < e
             at-e = omega (arith, end-is)
 
 -- ------------------------------------------------------------------ what the rows bear
 pub borne-more : (row code mark count : List ℕ) (i : ℕ) (code′ mark′ kids : List ℕ) → Borne row code mark count i code′ mark′ kids
-  → i < length code′ → i < length mark′ → i < length kids → (c a b d : ℕ) → c ≡ getD row i 0 → a ≡ getD code c 0 → b ≡ getD mark c 0 → d ≡ getD count c 0
-  → (kids₁ : List ℕ) → kids₁ ≡ set kids i d → Borne row code mark count (i + 1) (set code′ i a) (set mark′ i b) kids₁
+    → i < length code′ → i < length mark′ → i < length kids → (c a b d : ℕ) → c ≡ getD row i 0 → a ≡ getD code c 0 → b ≡ getD mark c 0 → d ≡ getD count c 0
+    → (kids₁ : List ℕ) → kids₁ ≡ set kids i d → Borne row code mark count (i + 1) (set code′ i a) (set mark′ i b) kids₁
 borne-more row code mark count i code′ mark′ kids h lc lm lk c a b d ec ea eb ed kids₁ ek j lj = rw ek (go (ℕ-discrete j i))
   where
     go : Dec (j ≡ i) → (getD (set code′ i a) j 0 ≡ getD code (getD row j 0) 0) × (getD (set mark′ i b) j 0 ≡ getD mark (getD row j 0) 0) × (getD (set kids i d) j 0 ≡ getD count (getD row j 0) 0)
     go (yes e) = rw e (
       getD-set-same code′ i a 0 lc ∙ rw ec at ea,
       getD-set-same mark′ i b 0 lm ∙ rw ec at eb,
-      getD-set-same kids i d 0 lk ∙ rw ec at ed)
+      getD-set-same kids i d 0 lk ∙ rw ec at ed,
+    )
     go (no q) = let z = h j (omega arith) in
-      (getD-set-other code′ i j a 0 q ∙ z .0, getD-set-other mark′ i j b 0 q ∙ z .1, getD-set-other kids i j d 0 q ∙ z .2)
+        (getD-set-other code′ i j a 0 q ∙ z .0, getD-set-other mark′ i j b 0 q ∙ z .1, getD-set-other kids i j d 0 q ∙ z .2)
 
 -- ------------------------------------------------------------------ rows that show a forest
 -- the forest with its nodes numbered in image order
@@ -155,10 +161,11 @@ module _ (row up span : List ℕ) where
   module _ (code mark count : List ℕ) (n : ℕ) (code′ mark′ kids : List ℕ) (B : Borne row code mark count n code′ mark′ kids) where
     pub counted-shown : (u at : ℕ) (F : Forest ℕ) → Shows row up span u at F → at + size F ≤ n → Counted count F → Counted kids (numbered at F)
     counted-shown u at bare s h c = tt
-    counted-shown u at (tree i k r) (a, b, s, d, f) h (c, ck, cr) =
-        (B at (omega arith) .2 ∙ rw (a, c) (sym (width-numbered (suc at) k)),
-          counted-shown at (suc at) k d (omega arith) ck,
-          counted-shown u (suc at + size k) r f (omega arith) cr)
+    counted-shown u at (tree i k r) (a, b, s, d, f) h (c, ck, cr) = (
+      B at (omega arith) .2 ∙ rw (a, c) (sym (width-numbered (suc at) k)),
+      counted-shown at (suc at) k d (omega arith) ck,
+      counted-shown u (suc at + size k) r f (omega arith) cr,
+    )
 
     pub tags-shown : (u at : ℕ) (F : Forest ℕ) → Shows row up span u at F → at + size F ≤ n → mapT (tagAt code′ mark′) (numbered at F) ≡ mapT (tagAt code mark) F
     unfolding mapT

@@ -7,3 +7,5 @@ pub mod Gathering
 pub mod LaidOut
 pub mod TableOrder
 pub mod ImageRows
+pub mod QueryTable
+pub mod RowsTable

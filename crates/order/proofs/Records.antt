@@ -89,15 +89,15 @@ mark-lt true true = omega arith
 module _ (key : List ℕ) (tag : ℕ → Tag) where
   -- two records with what follows them
   record-cmp : (i j : ℕ) (k l : Forest ℕ) (x y : List ℕ) → getD key i 0 ≡ keyT (tag i) (width k) → getD key j 0 ≡ keyT (tag j) (width l)
-    → labCode (tag i .lab) < 2097152 → labCode (tag j .lab) < 2097152 → width k < 2097152 → width l < 2097152
-    → (width k ≡ width l → cmpL (inTurn (mapT tag k) ++ x) (inTurn (mapT tag l) ++ y) ≡ thenBy (cmpF key k l) (cmpL x y))
-    → cmpL (recordAs (tag i) (mapT tag k) ++ x) (recordAs (tag j) (mapT tag l) ++ y) ≡ thenBy (cmpT key i k j l) (cmpL x y)
+      → labCode (tag i .lab) < 2097152 → labCode (tag j .lab) < 2097152 → width k < 2097152 → width l < 2097152
+      → (width k ≡ width l → cmpL (inTurn (mapT tag k) ++ x) (inTurn (mapT tag l) ++ y) ≡ thenBy (cmpF key k l) (cmpL x y))
+      → cmpL (recordAs (tag i) (mapT tag k) ++ x) (recordAs (tag j) (mapT tag l) ++ y) ≡ thenBy (cmpT key i k j l) (cmpL x y)
   record-cmp i j k l x y ei ej bi bj ck cl ih =
       ap (λ (z : List ℕ). cmpL z (recordAs (tag j) (mapT tag l) ++ y)) (spread i k x) ∙ ap (λ (z : List ℕ). cmpL (LL i ++ (MM i ++ (num (width k) ++ (inTurn (mapT tag k) ++ x)))) z) (spread j l y)
       ∙ num-cmp (lc i) (lc j) (MM i ++ (num (width k) ++ (inTurn (mapT tag k) ++ x))) (MM j ++ (num (width l) ++ (inTurn (mapT tag l) ++ y))) bi bj
       ∙ ap (thenBy (cmpN (written (lc i)) (written (lc j)))) (
-          num-cmp (mc i) (mc j) (num (width k) ++ (inTurn (mapT tag k) ++ x)) (num (width l) ++ (inTurn (mapT tag l) ++ y)) (let a = ml i in omega arith) (let a = ml j in omega arith)
-          ∙ ap (thenBy (cmpN (written (mc i)) (written (mc j)))) (num-cmp (width k) (width l) (inTurn (mapT tag k) ++ x) (inTurn (mapT tag l) ++ y) ck cl))
+      num-cmp (mc i) (mc j) (num (width k) ++ (inTurn (mapT tag k) ++ x)) (num (width l) ++ (inTurn (mapT tag l) ++ y)) (let a = ml i in omega arith) (let a = ml j in omega arith)
+      ∙ ap (thenBy (cmpN (written (mc i)) (written (mc j)))) (num-cmp (width k) (width l) (inTurn (mapT tag k) ++ x) (inTurn (mapT tag l) ++ y) ck cl))
       ∙ ap (thenBy (cmpN (written (lc i)) (written (lc j)))) (sym (then-assoc (cmpN (written (mc i)) (written (mc j))) (cmpN (written (width k)) (written (width l))) Z))
       ∙ sym (then-assoc (cmpN (written (lc i)) (written (lc j))) (thenBy (cmpN (written (mc i)) (written (mc j))) (cmpN (written (width k)) (written (width l)))) Z)
       ∙ ap (λ (z : Order). thenBy z Z) (sym (key-cmp (lc i) (mc i) (width k) (lc j) (mc j) (width l) bi (ml i) ck bj (ml j) cl))
@@ -105,25 +105,32 @@ module _ (key : List ℕ) (tag : ℕ → Tag) where
     where
       lc : ℕ → ℕ
       lc a = labCode (tag a .lab)
+
       mc : ℕ → ℕ
       mc a = markCode (tag a .src) (tag a .dst)
+
       ml : (a : ℕ) → mc a < 128
       ml a = mark-lt (tag a .src) (tag a .dst)
+
       LL : ℕ → List ℕ
       LL a = num (lc a)
+
       MM : ℕ → List ℕ
       MM a = num (mc a)
+
       Z : Order
       Z = cmpL (inTurn (mapT tag k) ++ x) (inTurn (mapT tag l) ++ y)
+
       spread : (a : ℕ) (h : Forest ℕ) (z : List ℕ) → recordAs (tag a) (mapT tag h) ++ z ≡ LL a ++ (MM a ++ (num (width h) ++ (inTurn (mapT tag h) ++ z)))
       spread a h z = rw (width-mapT tag h) (simp append-assoc)
+
       go : Three (keyT (tag i) (width k)) (keyT (tag j) (width l)) → thenBy (cmpN (keyT (tag i) (width k)) (keyT (tag j) (width l))) Z ≡ thenBy (cmpT key i k j l) (cmpL x y)
       go (lower h e) = rw (ei, ej, e)
       go (upper h e) = rw (ei, ej, e)
       go (equal h e) = rw (ei, ej, e) (ih (key-back (lc i) (mc i) (width k) (lc j) (mc j) (width l) bi (ml i) ck bj (ml j) cl h))
 
   pub forest-cmp : (F G : Forest ℕ) (x y : List ℕ) → Keyed key tag F → Keyed key tag G → width F ≡ width G
-    → cmpL (inTurn (mapT tag F) ++ x) (inTurn (mapT tag G) ++ y) ≡ thenBy (cmpF key F G) (cmpL x y)
+      → cmpL (inTurn (mapT tag F) ++ x) (inTurn (mapT tag G) ++ y) ≡ thenBy (cmpF key F G) (cmpL x y)
   unfolding mapT cmpF
   forest-cmp bare bare x y kf kg e = refl
   forest-cmp bare (tree j l s) x y kf kg e = absurd (omega arith)
@@ -178,11 +185,11 @@ module _ (key : List ℕ) (tag : ℕ → Tag) where
   place-is i k (tree j l r) (ei, bi, ck, kk, (ej, bj, cl, kl, kr)) sk (e, sl, sr) =
       go (upTo (cmpT key i k j l)) (place-is i k r (ei, bi, ck, kk, kr) sk sr)
       ∙ ap (λ (o : Order). cond (upTo o) (tree (tag i) (mapT tag k) (tree (tag j) (mapT tag l) (mapT tag r))) (tree (tag j) (mapT tag l) (place (tag i) (mapT tag k) (mapT tag r))))
-          (sym (tree-cmp i j k l r (ei, bi, ck, kk, kr) (ej, bj, cl, kl, kr)) ∙ sym (λ t. cmpL (rec-is (tag i) (mapT tag k) sk t) (rec-is (tag j) (mapT tag l) sl t)))
+      (sym (tree-cmp i j k l r (ei, bi, ck, kk, kr) (ej, bj, cl, kl, kr)) ∙ sym (λ t. cmpL (rec-is (tag i) (mapT tag k) sk t) (rec-is (tag j) (mapT tag l) sl t)))
       ∙ sym (pick-cmp (recordOf (tag i) (records (mapT tag k))) (recordOf (tag j) (records (mapT tag l))) (tree (tag i) (mapT tag k) (tree (tag j) (mapT tag l) (mapT tag r))) (tree (tag j) (mapT tag l) (place (tag i) (mapT tag k) (mapT tag r))))
     where
       go : (t : Bool) → mapT tag (placeBy key i k r) ≡ place (tag i) (mapT tag k) (mapT tag r)
-        → mapT tag (cond t (tree i k (tree j l r)) (tree j l (placeBy key i k r))) ≡ cond t (tree (tag i) (mapT tag k) (tree (tag j) (mapT tag l) (mapT tag r))) (tree (tag j) (mapT tag l) (place (tag i) (mapT tag k) (mapT tag r)))
+          → mapT tag (cond t (tree i k (tree j l r)) (tree j l (placeBy key i k r))) ≡ cond t (tree (tag i) (mapT tag k) (tree (tag j) (mapT tag l) (mapT tag r))) (tree (tag j) (mapT tag l) (place (tag i) (mapT tag k) (mapT tag r)))
       go true ih = refl
       go false ih = ap (λ (z : Forest Tag). tree (tag j) (mapT tag l) z) ih
 

@@ -59,10 +59,10 @@ module _ (parent code mark : List ℕ) (n : ℕ) (T : Table parent code mark n) 
 
   pub levels : Levels parent n lev
   levels = record {
-      above = omega (arith, T .few);
-      ends = end-lev noRow refl;
-      step = λ i l. go i l (ℕ-discrete (getD parent i 0) noRow);
-    }
+    above = omega (arith, T .few);
+    ends = end-lev noRow refl;
+    step = λ i l. go i l (ℕ-discrete (getD parent i 0) noRow);
+  }
     where
       go : (i : ℕ) → i < n → Dec (getD parent i 0 ≡ noRow) → (lev i ≡ suc (lev (getD parent i 0))) × ((getD parent i 0 < n) ⊎ (getD parent i 0 ≡ noRow))
       go i l (yes e) = (row-lev i l ∙ ap suc (ap (T .level) (T .single i l e) ∙ T .topLevel ∙ sym (end-lev (getD parent i 0) e)), inr e)
@@ -92,7 +92,7 @@ module _ (parent code mark : List ℕ) (n : ℕ) (T : Table parent code mark n) 
     count-is j l = let z : n - 0 ≡ n = omega arith in rw (← slot-row n j l, z) at (G .counts j (inl l))
 
     counted-plant : (m p b : ℕ) (js : List ℕ) → ((j : ℕ) → j < n → getD parent j 0 ≡ p → (0 < m) × Counted count (grown m parent n j))
-      → Children parent p n b js → Counted count (plant (λ j. j) (grown m parent n) js)
+        → Children parent p n b js → Counted count (plant (λ j. j) (grown m parent n) js)
     counted-plant m p b [] g k = tt
     counted-plant m p b (j ∷ js) g (l, u, e, k) =
         let h = g j u e in
@@ -104,10 +104,10 @@ module _ (parent code mark : List ℕ) (n : ℕ) (T : Table parent code mark n) 
     counted-grown (suc m) p h =
         counted-plant m p 0 (childrenOf p parent n 0)
         (λ j l e.
-          let s = levels .step j l .0 in
-          let y = ap lev e in
-          let b = level-le parent n lev levels j l in
-          (omega arith, counted-grown m j (omega arith)))
+        let s = levels .step j l .0 in
+        let y = ap lev e in
+        let b = level-le parent n lev levels j l in
+        (omega arith, counted-grown m j (omega arith)))
         (all-children parent n p)
 
     pub counted-shape : Counted count (tableShape parent n)
@@ -146,7 +146,7 @@ module _ (parent code mark : List ℕ) (n : ℕ) (T : Table parent code mark n) 
           go (ℕ-discrete j at) (decLt j (suc at + size k)) (λ x y. row-in row up span at (suc at) k d j x y) (λ x y. row-in row up span u (suc at + size k) r e j x y)
         where
           go : Dec (j ≡ at) → Dec (j < suc at + size k) → (suc at ≤ j → j < suc at + size k → In (getD row j 0) k)
-            → (suc at + size k ≤ j → j < suc at + size k + size r → In (getD row j 0) r) → In (getD row j 0) (tree i k r)
+              → (suc at + size k ≤ j → j < suc at + size k + size r → In (getD row j 0) r) → In (getD row j 0) (tree i k r)
           go (yes q) x f g = inl (rw q a)
           go (no q) (yes x) f g = inr (inl (f (omega arith) x))
           go (no q) (no x) f g = inr (inr (g (omega arith) (omega arith)))

@@ -241,7 +241,16 @@ fn make_keys(code: &[u32], mark: &[u8], count: &[u16], n: usize, key: &mut [u64]
 }
 
 // Lays the forest at c out from row `at` on, its brothers below row u, and returns the first row behind it.
-fn lay(first: &[u16], next: &[u16], c: usize, u: usize, at: usize, row: &mut [u16], up: &mut [u16], span: &mut [u16]) -> usize
+fn lay(
+    first: &[u16],
+    next: &[u16],
+    c: usize,
+    u: usize,
+    at: usize,
+    row: &mut [u16],
+    up: &mut [u16],
+    span: &mut [u16],
+) -> usize
     requires { ⌜ Roomy (now first) (now next) c u at (now row) (now up) (now span) ⌝ }
     ensures { λ r. ⌜ Laid (now (first .entry)) (now (next .entry)) c u at (now (row .entry)) (now (up .entry)) (now (span .entry)) (now (row .exit)) (now (up .exit)) (now (span .exit)) r ⌝ }
 {
@@ -259,7 +268,16 @@ fn lay(first: &[u16], next: &[u16], c: usize, u: usize, at: usize, row: &mut [u1
 }
 
 // Gives each of the n rows what its row of the table bears.
-fn bear(row: &[u16], code: &[u32], mark: &[u8], count: &[u16], n: usize, out_code: &mut [u32], out_mark: &mut [u8], kids: &mut [u16])
+fn bear(
+    row: &[u16],
+    code: &[u32],
+    mark: &[u8],
+    count: &[u16],
+    n: usize,
+    out_code: &mut [u32],
+    out_mark: &mut [u8],
+    kids: &mut [u16],
+)
     requires { ⌜ Bearing (now row) (now code) (now mark) (now count) n (now «out_code») (now «out_mark») (now kids) ⌝ }
     ensures { λ _. ⌜ Borne (now (row .entry)) (now (code .entry)) (now (mark .entry)) (now (count .entry)) n (now («out_code» .exit)) (now («out_mark» .exit)) (now (kids .exit)) ⌝ }
 {

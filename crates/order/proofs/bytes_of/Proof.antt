@@ -12,6 +12,7 @@ mul-result c = search needs
 -- src/lib.rt:207:9
 returns : tie.Need-returns
 returns c = written-one _ (c .if1 .taken)
+
 -- src/lib.rt:209:22
 add-a : tie.Need-add-a
 add-a c = search needs
@@ -31,6 +32,7 @@ add-result c = search needs
 -- src/lib.rt:211:9
 returns-2 : tie.Need-returns-2
 returns-2 c = written-two _ (c .before .if1 .left) (c .if2 .taken)
+
 -- src/lib.rt:213:16
 add-result-2 : tie.Need-add-result-2
 add-result-2 c = search needs
@@ -50,6 +52,7 @@ add-result-4 c = search needs
 -- src/lib.rt:202:1
 returns-3 : tie.Need-returns-3
 returns-3 c = written-three _ (c .if2 .left) (c .before .before .pre)
+
 pub bytes-of-spec : {M : Type 1} → statement M
 bytes-of-spec =
     tie.close

@@ -23,6 +23,7 @@ same-length c = search needs
 -- src/lib.rt:123:9
 returns : tie.Need-returns
 returns c = placed-front _ _ _ _ _ (c .before .before .before .before .before .before .before .before .before .before .pre) _ (c .before .before .before .before .before .spot .ensures) (c .before .before .before .before .if1 .taken) _ (c .before .before .set-link .ensures)
+
 -- src/lib.rt:125:9
 link-requires : tie.Need-link-requires
 link-requires c κs = search needs
@@ -42,6 +43,7 @@ same-length-2 c = search needs
 -- src/lib.rt:115:1
 returns-2 : tie.Need-returns-2
 returns-2 c = placed-after _ _ _ _ _ (c .before .before .before .before .before .before .before .before .before .before .before .before .before .before .before .before .pre) _ (c .before .before .before .before .before .before .before .before .before .before .before .spot .ensures) (c .before .before .before .before .before .before .before .before .before .before .if1 .left) _ (c .before .before .before .before .before .before .before .before .link .ensures .0) _ _ (c .before .before .before .before .before .before .set-link2 .ensures) (c .before .before .set-link3 .ensures)
+
 pub place-spec : {M : Type 1} → statement M
 place-spec =
     tie.close

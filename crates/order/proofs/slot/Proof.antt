@@ -7,8 +7,10 @@ use Rattle.order.proofs.slot.Lts as lts
 -- src/lib.rt:165:9
 returns : tie.Need-returns
 returns c = slot-row _ _ (c .if1 .taken)
+
 -- src/lib.rt:161:1
 returns-2 : tie.Need-returns-2
 returns-2 c = slot-top _ _ (c .if1 .left)
+
 pub slot-spec : {M : Type 1} → statement M
 slot-spec = tie.close (tie.spec returns returns-2)
