@@ -1,9 +1,9 @@
--- One turn of the loops that gather the children and make the keys; what the lists hold in the end is the forest that the table grows.
+-- One turn of the loop that gathers the children; what the lists hold in the end is the forest that the table grows.
 use mathlib.Core.Path.{_≡_, refl, sym, ap, _∙_}
 use mathlib.Core.Logic.{_⊎_, inl, inr}
 use mathlib.Core.List.{List, [], _∷_}
 use mathlib.Core.Bool.{Bool, true, false, cond}
-use Prim.Native.Nat.{ℕ, zero, suc, _+_, _-_, _*_, _/_, _%_, _<_, _≤_}
+use Prim.Native.Nat.{ℕ, zero, suc, _+_, _-_, _<_, _≤_}
 use native.Mathlib.Omega.{arith}
 use native.Mathlib.Decide.{ℕ-discrete}
 use lib.ListN.{length, getD, set, length-set}
@@ -14,8 +14,7 @@ use Rattle.meaning.specs.Tree.{Forest, bare, tree, size, plant}
 use Rattle.rows.specs.Rows.{noRow}
 use Rattle.order.specs.Links.{forestAt, Linked, Finite, Apart}
 use Rattle.order.specs.Table.{childrenOf, grown}
-use Rattle.order.specs.Keys.{written, keyOf}
-use Rattle.order.specs.Gathering.{Known, slotOf, Run, Empty, Slots, Gathered, Keys}
+use Rattle.order.specs.Gathering.{Known, slotOf, Run, Cleared, Slots, Gathered}
 use Rattle.order.proofs.Links.{read-is, finite-of}
 use Rattle.order.proofs.Growing.{Children, all-children, children-few, Levels, level-le, apart-grown, size-grown}
 
@@ -40,9 +39,9 @@ slot-inj n x p h (inr a) (inl b) e = let y = slot-top n x (omega arith) in let z
 slot-inj n x p h (inr a) (inr b) e = a ∙ sym b
 
 -- ------------------------------------------------------------------ clearing
-pub empty-more : (i : ℕ) (fs count : List ℕ) → Empty i fs count → i < length fs → i < length count → (fs′ count′ : List ℕ)
-    → fs′ ≡ set fs i noRow → count′ ≡ set count i 0 → Empty (i + 1) fs′ count′
-empty-more i fs count h lf lc fs′ count′ ef ec p l = rw (ef, ec) (go (ℕ-discrete p i))
+pub cleared-more : (i : ℕ) (fs count : List ℕ) → Cleared i fs count → i < length fs → i < length count → (fs′ count′ : List ℕ)
+    → fs′ ≡ set fs i noRow → count′ ≡ set count i 0 → Cleared (i + 1) fs′ count′
+cleared-more i fs count h lf lc fs′ count′ ef ec p l = rw (ef, ec) (go (ℕ-discrete p i))
   where
     go : Dec (p ≡ i) → (getD (set fs i noRow) p 0 ≡ noRow) × (getD (set count i 0) p 0 ≡ 0)
     go (yes e) = (rw e (getD-set-same fs i noRow 0 lf), rw e (getD-set-same count i 0 0 lc))
@@ -55,7 +54,7 @@ run-set ns i v c [] h = rw (length-set ns i v) h
 run-set ns i v c (j ∷ js) (e, b, l, h) =
     (e, omega arith, rw (length-set ns i v) l, rw (getD-set-other ns i j v 0 (λ x. omega arith)) (run-set ns i v (getD ns j 0) js h))
 
-pub gathered-none : (parent : List ℕ) (n : ℕ) (fs ns count : List ℕ) → length ns ≤ noRow → Empty (n + 1) fs count → Gathered parent n n fs ns count
+pub gathered-none : (parent : List ℕ) (n : ℕ) (fs ns count : List ℕ) → length ns ≤ noRow → Cleared (n + 1) fs count → Gathered parent n n fs ns count
 unfolding childrenOf
 gathered-none parent n fs ns count short h =
     let z : n - n ≡ 0 = omega arith in
@@ -135,33 +134,6 @@ module _ (parent : List ℕ) (n i : ℕ) (fs ns count : List ℕ) (w : Slots par
             let z : getD count p 0 ≡ length (childrenOf x parent (n - i) i) = rw s at (G .counts x kx) in
             rw (opened x true (eq-eqb q x (sym e)), s, getD-set-same count p (k + 1) 0 (slot-fits .1)) (omega arith)
         number x kx (inr (d, s)) = rw (opened x false (ne-eqb q x d), getD-set-other count p (slotOf n x) (k + 1) 0 s) (G .counts x kx)
-
--- ------------------------------------------------------------------ keys
-pub written-one : (x : ℕ) → x < 128 → (65536 * x ≡ written x) × (65536 * x < 16777216)
-unfolding written
-written-one x h = (sym (rw (lt-ltb x 128 h)), omega arith)
-
-pub written-two : (x : ℕ) → 128 ≤ x → x < 16384 → (65536 * (128 + x % 128) + 256 * (x / 128) ≡ written x) × (65536 * (128 + x % 128) + 256 * (x / 128) < 16777216)
-unfolding written
-written-two x h g = (sym (rw (le-ltb x 128 h, lt-ltb x 16384 g)), omega arith)
-
-pub written-three : (x : ℕ) → 16384 ≤ x → x < 2097152
-    → (65536 * (128 + x % 128) + 256 * (128 + x / 128 % 128) + x / 16384 ≡ written x) × (65536 * (128 + x % 128) + 256 * (128 + x / 128 % 128) + x / 16384 < 16777216)
-unfolding written
-written-three x h g = let z : 128 ≤ x = omega arith in (sym (rw (le-ltb x 128 z, le-ltb x 16384 h)), omega arith)
-
-pub keys-more : (code mark count key : List ℕ) (i : ℕ) → i < length key → Keys code mark count i key
-    → (l m c : ℕ) → l ≡ written (getD code i 0) → m ≡ getD mark i 0 → c ≡ written (getD count i 0)
-    → Keys code mark count (i + 1) (set key i ((l * 256 + m) * 16777216 + c))
-unfolding keyOf
-keys-more code mark count key i li w l m c el em ec x lx = go (ℕ-discrete x i)
-  where
-    v : ℕ
-    v = (l * 256 + m) * 16777216 + c
-
-    go : Dec (x ≡ i) → getD (set key i v) x 0 ≡ (written (getD code x 0) * 256 + getD mark x 0) * 16777216 + written (getD count x 0)
-    go (yes e) = rw (e, getD-set-same key i v 0 li, el, em, ec)
-    go (no d) = getD-set-other key i x v 0 d ∙ w x (omega arith)
 
 -- ------------------------------------------------------------------ what the lists hold
 module _ (parent : List ℕ) (n : ℕ) (lev : ℕ → ℕ) (L : Levels parent n lev) (fs ns count : List ℕ) (G : Gathered parent n 0 fs ns count) (nexts : n ≤ length ns) where

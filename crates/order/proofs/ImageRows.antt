@@ -10,7 +10,8 @@ use Rattle.meaning.specs.Tree.{Forest, size}
 use Rattle.meaning.specs.Image.{ordered}
 use Rattle.rows.specs.Rows.{treeRows, noRow, Rows}
 use Rattle.order.specs.Table.{tableShape, tableTree, Table}
-use Rattle.order.specs.Gathering.{Known, Empty, Slots, Gathered, Keyable, Keys}
+use Rattle.order.specs.Gathering.{Known, Cleared, Slots, Gathered}
+use Rattle.order.specs.Keys.{Keyable, Keys}
 use Rattle.order.specs.Links.{forestAt, Finite, Apart, orderedBy, Loose, Ordered}
 use Rattle.order.specs.LaidOut.{Shows, Roomy, Laid, Borne, Bearing}
 use Rattle.order.specs.Contract.{Room}
@@ -26,12 +27,12 @@ module _ (parent code mark : List ℕ) (n : ℕ) (first next count key row code�
   R = P .1
 
   -- ---------------------------------------------------------------- clear
-  module _ (fs₁ count₁ : List ℕ) (E : Empty (n + 1) fs₁ count₁) (lf₁ : length fs₁ ≡ length first) (lc₁ : length count₁ ≡ length count) where
+  module _ (fs₁ count₁ : List ℕ) (E : Cleared (n + 1) fs₁ count₁) (lf₁ : length fs₁ ≡ length first) (lc₁ : length count₁ ≡ length count) where
     known : (i : ℕ) → i < n → Dec (getD parent i 0 ≡ noRow) → Known n (getD parent i 0)
     known i l (yes e) = inr e
     known i l (no d) = inl (T .linked i l d .0)
 
-    pub slots : Slots parent n fs₁ next count₁ × Empty (n + 1) fs₁ count₁
+    pub slots : Slots parent n fs₁ next count₁ × Cleared (n + 1) fs₁ count₁
     slots = (
       record {
         few = T .few;

@@ -8,7 +8,7 @@ use native.Mathlib.Omega.{arith}
 use lib.ListN.{length, getD, set, length-set}
 use lib.Seq.{getD-set-same, getD-set-other}
 use Rattle.meaning.specs.Tree.{Forest, bare, tree, size}
-use Rattle.rows.specs.Rows.{width, Counted}
+use Rattle.rows.specs.Rows.{width}
 use Rattle.order.specs.declared.Order.{Order}
 use Rattle.order.specs.Links.{forestAt, Linked, In, Apart, Finite, Wide, cmpT, upTo, placeBy, orderedBy, spotOf, Ready, Placed, Loose, Ordered}
 use Rattle.order.proofs.Links.{read-is, finite-of, read-none, Opens, opens}
@@ -166,7 +166,16 @@ module _ (fs ns key : List ℕ) (c q : ℕ) (w : Ready fs ns key c q) (p : ℕ) 
       go (inr (mp, y)) = rw (e₂, e₁, em) (built (set (set ns c (getD ns p 0)) p c) q (w .low) (length-set (set ns c (getD ns p 0)) p c ∙ length-set ns c (getD ns p 0)) y
           (λ j jc jq. getD-set-other (set ns c (getD ns p 0)) p j c 0 (λ x. jq (rw x mp)) ∙ getD-set-other ns c j (getD ns p 0) 0 jc))
 
--- ------------------------------------------------------------------ sorted forests
+-- ------------------------------------------------------------------ forests in order
+-- so is every row, with the number of its children
+abbrev pub Each : (ℕ → ℕ → Type 0) → Forest ℕ → Type 0
+Each P bare = Unit {0}
+Each P (tree i k r) = P i (width k) × Each P k × Each P r
+
+pub each-map : (P Q : ℕ → ℕ → Type 0) → ((i w : ℕ) → P i w → Q i w) → (F : Forest ℕ) → Each P F → Each Q F
+each-map P Q f bare h = tt
+each-map P Q f (tree i k r) (pi, pk, pr) = (f i (width k) pi, each-map P Q f k pk, each-map P Q f r pr)
+
 module _ (key : List ℕ) where
   pub in-orderedBy : (F : Forest ℕ) (j : ℕ) → In j (orderedBy key F) → In j F
   unfolding orderedBy
@@ -206,20 +215,20 @@ module _ (key : List ℕ) where
   width-orderedBy bare = refl
   width-orderedBy (tree i k r) = width-place i (orderedBy key k) (orderedBy key r) ∙ ap suc (width-orderedBy r)
 
-  counted-place : (count : List ℕ) (i : ℕ) (k R : Forest ℕ) → Counted count (tree i k R) → Counted count (placeBy key i k R)
+  each-place : (P : ℕ → ℕ → Type 0) (i : ℕ) (k R : Forest ℕ) → Each P (tree i k R) → Each P (placeBy key i k R)
   unfolding placeBy
-  counted-place count i k bare h = h
-  counted-place count i k (tree j l r) (ci, ck, (cj, cl, cr)) = go (upTo (cmpT key i k j l)) (counted-place count i k r (ci, ck, cr))
+  each-place P i k bare h = h
+  each-place P i k (tree j l r) (pi, pk, (pj, pl, pr)) = go (upTo (cmpT key i k j l)) (each-place P i k r (pi, pk, pr))
     where
-      go : (t : Bool) → Counted count (placeBy key i k r) → Counted count (cond t (tree i k (tree j l r)) (tree j l (placeBy key i k r)))
-      go true ih = (ci, ck, (cj, cl, cr))
-      go false ih = (cj, cl, ih)
+      go : (t : Bool) → Each P (placeBy key i k r) → Each P (cond t (tree i k (tree j l r)) (tree j l (placeBy key i k r)))
+      go true ih = (pi, pk, (pj, pl, pr))
+      go false ih = (pj, pl, ih)
 
-  pub counted-orderedBy : (count : List ℕ) (F : Forest ℕ) → Counted count F → Counted count (orderedBy key F)
+  pub each-orderedBy : (P : ℕ → ℕ → Type 0) (F : Forest ℕ) → Each P F → Each P (orderedBy key F)
   unfolding orderedBy
-  counted-orderedBy count bare h = h
-  counted-orderedBy count (tree i k r) (ci, ck, cr) =
-      counted-place count i (orderedBy key k) (orderedBy key r) (rw (width-orderedBy k) ci, counted-orderedBy count k ck, counted-orderedBy count r cr)
+  each-orderedBy P bare h = h
+  each-orderedBy P (tree i k r) (pi, pk, pr) =
+      each-place P i (orderedBy key k) (orderedBy key r) (rw (width-orderedBy k) pi, each-orderedBy P k pk, each-orderedBy P r pr)
 
 -- ------------------------------------------------------------------ one call of in_order
 pub ordered-none : (fs ns key : List ℕ) (c : ℕ) → Loose fs ns key c → length ns ≤ c → Ordered fs ns key c fs ns c

@@ -1,3 +1,4 @@
+pub mod Comparing
 pub mod Keys
 pub mod Links
 pub mod Inserting

@@ -11,6 +11,7 @@ use borrow.Author.Tests.{lt-ltb, le-ltb, ltb-true, ltb-false}
 use Rattle.meaning.specs.Tree.{Forest, bare, tree, size}
 use Rattle.order.specs.declared.Order.{Order}
 use Rattle.order.specs.declared.Order.the-variants.{Before, Same, After}
+use Rattle.order.proofs.Comparing.{cmp-lt, cmp-gt, cmp-eq}
 use Rattle.order.specs.Links.{forestFrom, forestAt, Linked, In, Apart, Finite, Wide, thenBy, cmpN, cmpF, cmpT, upTo, placeBy, orderedBy, goesFirst, spotOf, Ready, Placed, Loose, Ordered}
 
 -- ------------------------------------------------------------------ reading
@@ -65,15 +66,6 @@ pub goes-along : (fs ns : List ℕ) (c i : ℕ) → Finite fs ns c → c < lengt
 goes-along fs ns c i w l e = let o = opens fs ns c w l in (rw e (o .along), rw e (o .along-less))
 
 -- ------------------------------------------------------------------ comparing what is read at x and y
-pub cmp-lt : (a b : ℕ) → a < b → cmpN a b ≡ Before
-cmp-lt a b h = rw (lt-ltb a b h)
-
-pub cmp-gt : (a b : ℕ) → b < a → cmpN a b ≡ After
-cmp-gt a b h = let g : b ≤ a = omega arith in rw (le-ltb a b g, lt-ltb b a h)
-
-pub cmp-eq : (a b : ℕ) → b ≤ a → a ≤ b → cmpN a b ≡ Same
-cmp-eq a b h g = rw (le-ltb a b h, le-ltb b a g)
-
 module _ (fs ns key : List ℕ) (x y : ℕ) where
   abbrev cmp : Order
   cmp = cmpF key (forestAt fs ns x) (forestAt fs ns y)

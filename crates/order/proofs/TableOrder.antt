@@ -14,10 +14,11 @@ use Rattle.meaning.specs.Image.{labCode, markCode, ordered}
 use Rattle.rows.specs.Rows.{labOf, tagAt, shape, mapT, treeRows, width, Counted, noRow, Rows}
 use Rattle.rows.proofs.Rows.{holds-is}
 use Rattle.order.specs.Table.{childrenOf, grown, tableShape, tableTree, Table}
-use Rattle.order.specs.Gathering.{Gathered, Keys}
+use Rattle.order.specs.Gathering.{Gathered}
+use Rattle.order.specs.Keys.{Keys}
 use Rattle.order.specs.Links.{In, orderedBy}
 use Rattle.order.specs.LaidOut.{Shows, Borne}
-use Rattle.order.proofs.Inserting.{in-orderedBy, size-orderedBy, width-orderedBy, counted-orderedBy}
+use Rattle.order.proofs.Inserting.{in-orderedBy, size-orderedBy, width-orderedBy, Each, each-map, each-orderedBy}
 use Rattle.order.proofs.Records.{Keyed, ordered-by}
 use Rattle.order.proofs.Growing.{Children, all-children, children-few, Levels, level-le, grown-lt, size-grown}
 use Rattle.order.proofs.Gathering.{slot-row}
@@ -91,39 +92,44 @@ module _ (parent code mark : List ℕ) (n : ℕ) (T : Table parent code mark n) 
     count-is : (j : ℕ) → j < n → getD count j 0 ≡ length (childrenOf j parent n 0)
     count-is j l = let z : n - 0 ≡ n = omega arith in rw (← slot-row n j l, z) at (G .counts j (inl l))
 
-    counted-plant : (m p b : ℕ) (js : List ℕ) → ((j : ℕ) → j < n → getD parent j 0 ≡ p → (0 < m) × Counted count (grown m parent n j))
-        → Children parent p n b js → Counted count (plant (λ j. j) (grown m parent n) js)
-    counted-plant m p b [] g k = tt
-    counted-plant m p b (j ∷ js) g (l, u, e, k) =
-        let h = g j u e in
-        (count-is j u ∙ sym (width-grown parent n m j (h .0)), h .1, counted-plant m p (suc j) js g k)
+    -- row j is a row of the table, and w is the number of its children
+    abbrev pub Right : ℕ → ℕ → Type 0
+    Right j w = (j < n) × (getD count j 0 ≡ w)
 
-    counted-grown : (m p : ℕ) → n < lev p + m → Counted count (grown m parent n p)
+    right-plant : (m p b : ℕ) (js : List ℕ) → ((j : ℕ) → j < n → getD parent j 0 ≡ p → (0 < m) × Each Right (grown m parent n j))
+      → Children parent p n b js → Each Right (plant (λ j. j) (grown m parent n) js)
+    right-plant m p b [] g k = tt
+    right-plant m p b (j ∷ js) g (l, u, e, k) =
+        let h = g j u e in ((u, count-is j u ∙ sym (width-grown parent n m j (h .0))), h .1, right-plant m p (suc j) js g k)
+
+    right-grown : (m p : ℕ) → n < lev p + m → Each Right (grown m parent n p)
     unfolding grown
-    counted-grown zero p h = tt
-    counted-grown (suc m) p h =
-        counted-plant m p 0 (childrenOf p parent n 0)
+    right-grown zero p h = tt
+    right-grown (suc m) p h =
+        right-plant m p 0 (childrenOf p parent n 0)
         (λ j l e.
-        let s = levels .step j l .0 in
-        let y = ap lev e in
-        let b = level-le parent n lev levels j l in
-        (omega arith, counted-grown m j (omega arith)))
+          let s = levels .step j l .0 in
+          let y = ap lev e in
+          let b = level-le parent n lev levels j l in
+          (omega arith, right-grown m j (omega arith)))
         (all-children parent n p)
 
-    pub counted-shape : Counted count (tableShape parent n)
+    right-shape : Each Right (tableShape parent n)
     unfolding tableShape
-    counted-shape = counted-grown (suc n) noRow (let z = end-lev noRow refl in omega arith)
+    right-shape = right-grown (suc n) noRow (let z = end-lev noRow refl in omega arith)
+
+    each-counted : (F : Forest ℕ) → Each Right F → Counted count F
+    each-counted bare h = tt
+    each-counted (tree i k r) (hi, hk, hr) = (hi .1, each-counted k hk, each-counted r hr)
 
     module _ (key : List ℕ) (K : Keys code mark count n key) where
-      keyed : (F : Forest ℕ) → ((j : ℕ) → In j F → j < n) → Counted count F → Keyed key (tagAt code mark) F
-      keyed bare h c = tt
-      keyed (tree i k r) h (c, ck, cr) =
-          let l = h i (inl refl) in
+      right-keyed : (i w : ℕ) → Right i w → Keyed key (tagAt code mark) i w
+      right-keyed i w (l, c) =
           let a = lab-code (getD code i 0) in
           let b = mark-code (getD mark i 0) (T .marked i l) in
           let d = count-is i l in
           let f = children-few parent i n 0 in
-          (K i l ∙ rw (a, b, c), rw a (let z = T .labels i l in omega arith), omega (arith, T .few), keyed k (λ j m. h j (inr (inl m))) ck, keyed r (λ j m. h j (inr (inr m))) cr)
+          record { is = K i l ∙ rw (a, b, c); low = rw a (let z = T .labels i l in omega arith); few = omega (arith, T .few) }
 
       -- the table's tree in image order, as row numbers
       abbrev sorted : Forest ℕ
@@ -131,7 +137,7 @@ module _ (parent code mark : List ℕ) (n : ℕ) (T : Table parent code mark n) 
 
       pub tree-sorted : mapT (tagAt code mark) sorted ≡ ordered (tableTree parent code mark n)
       unfolding tableTree
-      tree-sorted = ordered-by key (tagAt code mark) (tableShape parent n) (keyed (tableShape parent n) shape-lt counted-shape)
+      tree-sorted = ordered-by key (tagAt code mark) (tableShape parent n) (each-map Right (Keyed key (tagAt code mark)) right-keyed (tableShape parent n) right-shape)
 
       pub size-sorted : size sorted ≡ n
       size-sorted = size-orderedBy key (tableShape parent n) ∙ size-shape
@@ -178,7 +184,7 @@ module _ (parent code mark : List ℕ) (n : ℕ) (T : Table parent code mark n) 
             labels = λ u l. rw (B u l .0) (T .labels (getD row u 0) (row-lt u l));
             marked = λ u l. rw (B u l .1) (T .marked (getD row u 0) (row-lt u l));
             laid = rw shape-shown (let z = size-sorted in holds-shown row up span noRow 0 n sorted S (omega arith));
-            counted = rw shape-shown (counted-shown row up span code mark count n code′ mark′ kids B noRow 0 sorted S fits-n (counted-orderedBy key count (tableShape parent n) counted-shape));
+            counted = rw shape-shown (counted-shown row up span code mark count n code′ mark′ kids B noRow 0 sorted S fits-n (each-counted sorted (each-orderedBy key Right (tableShape parent n) right-shape)));
             hung = rw shape-shown (hung-shown row up span noRow 0 sorted S);
             single = rw (shape-shown, width-numbered 0 sorted, width-orderedBy key (tableShape parent n)) width-shape;
           }

@@ -7,10 +7,8 @@ use mathlib.Core.List.{List, [], _∷_}
 use Prim.Native.Nat.{ℕ, suc, _-_, _≤_, _<_}
 use lib.ListN.{length, getD}
 use lib.Dec.{ltb}
-use Rattle.meaning.specs.Number.{largestLabel}
 use Rattle.rows.specs.Rows.{noRow}
 use Rattle.order.specs.Table.{childrenOf}
-use Rattle.order.specs.Keys.{keyOf}
 
 -- p is a row, or stands for no parent
 abbrev pub Known : ℕ → ℕ → Type 0
@@ -26,8 +24,8 @@ Run ns b c [] = length ns ≤ c
 Run ns b c (j ∷ js) = (c ≡ j) × (b ≤ j) × (j < length ns) × Run ns b (getD ns j 0) js
 
 -- slots up to i lead nowhere and count nothing
-abbrev pub Empty : ℕ → List ℕ → List ℕ → Type 0
-Empty i fs count = (p : ℕ) → p < i → (getD fs p 0 ≡ noRow) × (getD count p 0 ≡ 0)
+abbrev pub Cleared : ℕ → List ℕ → List ℕ → Type 0
+Cleared i fs count = (p : ℕ) → p < i → (getD fs p 0 ≡ noRow) × (getD count p 0 ≡ 0)
 
 -- room for the lists of n rows
 pub record Slots (parent : List ℕ) (n : ℕ) (fs ns count : List ℕ) : Type 0 where
@@ -43,15 +41,3 @@ pub record Slots (parent : List ℕ) (n : ℕ) (fs ns count : List ℕ) : Type 0
 pub record Gathered (parent : List ℕ) (n b : ℕ) (fs ns count : List ℕ) : Type 0 where
   pub lists : (p : ℕ) → Known n p → Run ns b (getD fs (slotOf n p) 0) (childrenOf p parent (n - b) b)
   pub counts : (p : ℕ) → Known n p → getD count (slotOf n p) 0 ≡ length (childrenOf p parent (n - b) b)
-
--- the first n rows have label codes, marks and numbers of children that a key can hold
-pub record Keyable (code mark count : List ℕ) (n : ℕ) (key : List ℕ) : Type 0 where
-  pub codes : n ≤ length code
-  pub marks : n ≤ length mark
-  pub counts : n ≤ length count
-  pub keys : n ≤ length key
-  pub labels : (i : ℕ) → i < n → getD code i 0 ≤ suc largestLabel
-
--- the first b rows have their keys
-abbrev pub Keys : List ℕ → List ℕ → List ℕ → ℕ → List ℕ → Type 0
-Keys code mark count b key = (i : ℕ) → i < b → getD key i 0 ≡ keyOf (getD code i 0) (getD mark i 0) (getD count i 0)

@@ -8,8 +8,8 @@ ghost use lib.ListN.{length, getD, set};
 ghost use Rattle.meaning.specs.Image.{ordered};
 ghost use Rattle.rows.specs.Rows.{Rows, treeRows};
 ghost use Rattle.order.specs.Table.{Table, tableTree};
-ghost use Rattle.order.specs.Keys.{written};
-ghost use Rattle.order.specs.Gathering.{slotOf, Empty, Slots, Gathered, Keyable, Keys};
+ghost use Rattle.order.specs.Keys.{written, Keyable, Keys};
+ghost use Rattle.order.specs.Gathering.{slotOf, Cleared, Slots, Gathered};
 ghost use Rattle.order.specs.Links.{Wide, Finite, forestAt, cmpF, goesFirst, spotOf, Ready, Placed, Loose, Ordered};
 ghost use Rattle.order.specs.LaidOut.{Roomy, Laid, Borne, Bearing};
 ghost use Rattle.order.specs.Contract.{Room};
@@ -170,7 +170,7 @@ fn slot(p: usize, n: usize) -> usize
 // Empties the lists of n rows and of the top.
 fn clear(n: usize, first: &mut [u16], count: &mut [u16])
     requires { ⌜ (n < length (now first)) × (n < length (now count)) ⌝ }
-    ensures { λ _. ⌜ Empty (n + 1) (now (first .exit)) (now (count .exit)) ⌝ }
+    ensures { λ _. ⌜ Cleared (n + 1) (now (first .exit)) (now (count .exit)) ⌝ }
 {
     let mut i: usize = 0;
     while i <= n {
@@ -182,7 +182,7 @@ fn clear(n: usize, first: &mut [u16], count: &mut [u16])
 
 // Gives each parent the list of its children, in the order of the table, and their number.
 fn gather(parent: &[u16], n: usize, first: &mut [u16], next: &mut [u16], count: &mut [u16])
-    requires { ⌜ Slots (now parent) n (now first) (now next) (now count) × Empty (n + 1) (now first) (now count) ⌝ }
+    requires { ⌜ Slots (now parent) n (now first) (now next) (now count) × Cleared (n + 1) (now first) (now count) ⌝ }
     ensures { λ _. ⌜ Gathered (now (parent .entry)) n 0 (now (first .exit)) (now (next .exit)) (now (count .exit)) ⌝ }
 {
     let mut i = n;

@@ -1,4 +1,4 @@
-use Rattle.order.proofs.Gathering.{written-one, written-two, written-three}
+use Rattle.order.proofs.Keys.{written-one, written-two, written-three}
 use borrow.Author.Needs.{needs}
 use Rattle.order.proofs.bytes_of.Statement.{statement}
 use Rattle.order.proofs.bytes_of.Tie as tie

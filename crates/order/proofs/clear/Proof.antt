@@ -3,8 +3,8 @@ use Prim.Native.Nat.{_+_, _-_, _≤_, _<_}
 use mathlib.Core.Path.{_≡_, refl, sym, ap, _∙_}
 use native.Mathlib.Omega.{arith}
 use lib.ListN.{length}
-use Rattle.order.specs.Gathering.{Empty}
-use Rattle.order.proofs.Gathering.{empty-more}
+use Rattle.order.specs.Gathering.{Cleared}
+use Rattle.order.proofs.Gathering.{cleared-more}
 use Rattle.order.proofs.clear.Statement.{statement}
 use Rattle.order.proofs.clear.Tie as tie
 use Rattle.order.proofs.clear.Reads as reads
@@ -12,7 +12,7 @@ use Rattle.order.proofs.clear.Lts as lts
 use Rattle.order.proofs.set_link.Reads as set-link-reads
 
 abbrev Inv-loop : tie.InvT-loop
-Inv-loop n first₀ count₀ i₀ first count i = (i ≤ n + 1) × (length first ≡ length first₀) × (length count ≡ length count₀) × Empty i first count
+Inv-loop n first₀ count₀ i₀ first count i = (i ≤ n + 1) × (length first ≡ length first₀) × (length count ≡ length count₀) × Cleared i first count
 
 abbrev μ-loop : tie.MeasureT-loop
 μ-loop n first₀ count₀ i₀ first count i = n + 1 - i
@@ -43,7 +43,7 @@ loop-again c = (
   omega arith,
   c .before .before .before .before .before .before .set-link .kept .0 ∙ c .before .before .before .before .before .before .before .before .before .loop .inv .1,
   c .before .before .set-link2 .kept .0 ∙ c .before .before .before .before .before .before .before .before .before .loop .inv .2,
-  empty-more (c .before .before .before .before .before .before .before .before .before .loop .i) (c .before .before .before .before .before .before .before .before .before .loop .first) (c .before .before .before .before .before .before .before .before .before .loop .count) (c .before .before .before .before .before .before .before .before .before .loop .inv .3) (omega (arith, c .before .before .before .before .before .before .before .before .before .loop .inv .1, c .before .before .before .before .before .before .before .before .before .before .before .before .pre .0)) (omega (arith, c .before .before .before .before .before .before .before .before .before .loop .inv .2, c .before .before .before .before .before .before .before .before .before .before .before .before .pre .1)) _ _ (c .before .before .before .before .before .before .set-link .ensures) (c .before .before .set-link2 .ensures),
+  cleared-more (c .before .before .before .before .before .before .before .before .before .loop .i) (c .before .before .before .before .before .before .before .before .before .loop .first) (c .before .before .before .before .before .before .before .before .before .loop .count) (c .before .before .before .before .before .before .before .before .before .loop .inv .3) (omega (arith, c .before .before .before .before .before .before .before .before .before .loop .inv .1, c .before .before .before .before .before .before .before .before .before .before .before .before .pre .0)) (omega (arith, c .before .before .before .before .before .before .before .before .before .loop .inv .2, c .before .before .before .before .before .before .before .before .before .before .before .before .pre .1)) _ _ (c .before .before .before .before .before .before .set-link .ensures) (c .before .before .set-link2 .ensures),
 )
 
 -- src/lib.rt:171:1

@@ -3,9 +3,8 @@ use Prim.Native.Nat.{_+_, _-_, _≤_, _<_}
 use mathlib.Core.Path.{_≡_, refl, sym, ap, _∙_}
 use native.Mathlib.Omega.{arith}
 use lib.ListN.{length, length-set}
-use Rattle.order.specs.Keys.{written}
-use Rattle.order.specs.Gathering.{Keys}
-use Rattle.order.proofs.Gathering.{keys-more}
+use Rattle.order.specs.Keys.{written, Keys}
+use Rattle.order.proofs.Keys.{keys-more}
 use Rattle.order.proofs.make_keys.Statement.{statement}
 use Rattle.order.proofs.make_keys.Tie as tie
 use Rattle.order.proofs.make_keys.Reads as reads
