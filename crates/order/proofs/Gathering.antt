@@ -10,7 +10,7 @@ use lib.ListN.{length, getD, set, length-set}
 use lib.Seq.{getD-set-same, getD-set-other}
 use lib.Dec.{eqb, ltb}
 use borrow.Author.Tests.{eq-eqb, ne-eqb, lt-ltb, le-ltb, ltb-true}
-use Rattle.meaning.specs.Tree.{Forest, bare, tree, size, plant}
+use Rattle.meaning.specs.Tree.{size, plant}
 use Rattle.rows.specs.Rows.{noRow}
 use Rattle.order.specs.Links.{forestAt, Linked, Finite, Apart}
 use Rattle.order.specs.Table.{childrenOf, grown}

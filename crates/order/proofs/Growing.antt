@@ -3,7 +3,7 @@ use mathlib.Core.Path.{_≡_, refl, sym, ap, _∙_}
 use mathlib.Core.Logic.{_⊎_, inl, inr}
 use mathlib.Core.List.{List, [], _∷_}
 use mathlib.Core.Bool.{Bool, true, false, cond}
-use Prim.Native.Nat.{ℕ, zero, suc, _+_, _-_, _<_, _≤_}
+use Prim.Native.Nat.{ℕ, zero, suc, _+_, _<_, _≤_}
 use native.Mathlib.Omega.{arith}
 use native.Mathlib.Decide.{ℕ-discrete, decLt}
 use lib.ListN.{length, getD}
@@ -140,10 +140,10 @@ hits-le (tree i k r) (ik, ir, kr, ak, ar) j = go (eqb i j) refl (hit k j) (hit r
     go false e (inr a) (inl b) x y = omega arith
     go false e (inr a) (inr b) x y = absurd (kr j a b)
 
-pub size-le : (N : ℕ) (F : Forest ℕ) → Apart F → ((j : ℕ) → In j F → j < N) → size F ≤ N
+size-le : (N : ℕ) (F : Forest ℕ) → Apart F → ((j : ℕ) → In j F → j < N) → size F ≤ N
 size-le N F a h = let z = sum-hits N F h in let y = sum-le N (hits F) (hits-le F a) in omega arith
 
-pub size-ge : (N : ℕ) (F : Forest ℕ) → ((j : ℕ) → j < N → In j F) → ((j : ℕ) → In j F → j < N) → N ≤ size F
+size-ge : (N : ℕ) (F : Forest ℕ) → ((j : ℕ) → j < N → In j F) → ((j : ℕ) → In j F → j < N) → N ≤ size F
 size-ge N F a h = let z = sum-hits N F h in let y = sum-ge N (hits F) (λ j l. hits-ge F j (a j l)) in omega arith
 
 -- ------------------------------------------------------------------ levels
@@ -228,7 +228,7 @@ module _ (parent : List ℕ) (n : ℕ) (lev : ℕ → ℕ) (L : Levels parent n 
   plant-lt m p b (j ∷ js) x g (l, u, e, k) (inr (inl h)) = g j h
   plant-lt m p b (j ∷ js) x g (l, u, e, k) (inr (inr h)) = plant-lt m p (suc j) js x g k h
 
-  pub grown-lt : (m p x : ℕ) → In x (grown m parent n p) → x < n
+  grown-lt : (m p x : ℕ) → In x (grown m parent n p) → x < n
   unfolding grown
   grown-lt zero p x h = absurd h
   grown-lt (suc m) p x h = plant-lt m p 0 (childrenOf p parent n 0) x (λ j. grown-lt m j x) (all-children parent n p) h

@@ -1,12 +1,12 @@
 -- From the table to the rows, call by call: what each call may assume, and in the end that the rows are the table's tree in image order.
-use mathlib.Core.Path.{_≡_, refl, sym, ap, _∙_}
-use mathlib.Core.Logic.{_⊎_, inl, inr}
+use mathlib.Core.Path.{_≡_, ap, _∙_}
+use mathlib.Core.Logic.{inl, inr}
 use mathlib.Core.List.{List}
-use Prim.Native.Nat.{ℕ, suc, _+_, _<_, _≤_}
+use Prim.Native.Nat.{ℕ, _+_, _<_}
 use native.Mathlib.Omega.{arith}
 use native.Mathlib.Decide.{ℕ-discrete}
 use lib.ListN.{length, getD}
-use Rattle.meaning.specs.Tree.{Forest, size}
+use Rattle.meaning.specs.Tree.{size}
 use Rattle.meaning.specs.Image.{ordered}
 use Rattle.rows.specs.Rows.{treeRows, noRow, Rows}
 use Rattle.order.specs.Table.{tableShape, tableTree, Table}

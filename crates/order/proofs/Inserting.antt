@@ -1,20 +1,19 @@
--- Putting a tree into an ordered list, and ordering a forestFrom in place.
+-- Putting a tree into a list that is in order, by two links, and putting a forest in order in place: what is read afterwards.
 use mathlib.Core.Path.{_≡_, refl, sym, ap, _∙_}
-use mathlib.Core.Logic.{_⊎_, inl, inr, _≢_}
-use mathlib.Core.List.{List, [], _∷_, _++_}
+use mathlib.Core.Logic.{_⊎_, inl, inr}
+use mathlib.Core.List.{List}
 use mathlib.Core.Bool.{Bool, true, false, cond}
-use Prim.Native.Nat.{ℕ, zero, suc, _+_, _-_, _<_, _≤_}
+use Prim.Native.Nat.{ℕ, suc, _<_, _≤_}
 use native.Mathlib.Omega.{arith}
 use lib.ListN.{length, getD, set, length-set}
 use lib.Seq.{getD-set-same, getD-set-other}
 use Rattle.meaning.specs.Tree.{Forest, bare, tree, size}
 use Rattle.rows.specs.Rows.{width}
-use Rattle.order.specs.declared.Order.{Order}
-use Rattle.order.specs.Links.{forestAt, Linked, In, Apart, Finite, Wide, cmpT, upTo, placeBy, orderedBy, spotOf, Ready, Placed, Loose, Ordered}
+use Rattle.order.specs.Links.{forestAt, Linked, In, Apart, cmpT, upTo, placeBy, orderedBy, spotOf, Ready, Placed, Loose, Ordered}
 use Rattle.order.proofs.Links.{read-is, finite-of, read-none, Opens, opens}
 
 -- ------------------------------------------------------------------ links that are kept
-pub kept : (fs ns fs′ ns′ : List ℕ) → length ns′ ≡ length ns → (F : Forest ℕ) (c : ℕ)
+kept : (fs ns fs′ ns′ : List ℕ) → length ns′ ≡ length ns → (F : Forest ℕ) (c : ℕ)
     → ((j : ℕ) → In j F → (getD fs′ j 0 ≡ getD fs j 0) × (getD ns′ j 0 ≡ getD ns j 0)) → Linked fs ns c F → Linked fs′ ns′ c F
 kept fs ns fs′ ns′ len bare c same h = rw len h
 kept fs ns fs′ ns′ len (tree i k r) c same (e, l, hk, hr) = (
@@ -32,7 +31,7 @@ in-lt fs ns (tree i k r) c j (e, l, hk, hr) (inr (inr m)) = in-lt fs ns r (getD 
 
 -- ------------------------------------------------------------------ a tree put into a list
 module _ (key : List ℕ) (c : ℕ) (K : Forest ℕ) where
-  pub in-place : (Q : Forest ℕ) (j : ℕ) → In j (placeBy key c K Q) → (j ≡ c) ⊎ In j K ⊎ In j Q
+  in-place : (Q : Forest ℕ) (j : ℕ) → In j (placeBy key c K Q) → (j ≡ c) ⊎ In j K ⊎ In j Q
   unfolding placeBy
   in-place bare j m = m
   in-place (tree b l r) j m = go (in-place r j) (upTo (cmpT key c K b l)) m
@@ -49,7 +48,7 @@ module _ (key : List ℕ) (c : ℕ) (K : Forest ℕ) where
           up (inr (inl y)) = inr (inl y)
           up (inr (inr y)) = inr (inr (inr (inr y)))
 
-  pub size-place : (Q : Forest ℕ) → size (placeBy key c K Q) ≡ size (tree c K Q)
+  size-place : (Q : Forest ℕ) → size (placeBy key c K Q) ≡ size (tree c K Q)
   unfolding placeBy
   size-place bare = refl
   size-place (tree b l r) = go (size-place r) (upTo (cmpT key c K b l))
@@ -58,7 +57,7 @@ module _ (key : List ℕ) (c : ℕ) (K : Forest ℕ) where
       go ih true = refl
       go ih false = omega arith
 
-  pub apart-place : (Q : Forest ℕ) → Apart (tree c K Q) → Apart (placeBy key c K Q)
+  apart-place : (Q : Forest ℕ) → Apart (tree c K Q) → Apart (placeBy key c K Q)
   unfolding placeBy
   apart-place bare a = a
   apart-place (tree b l r) (ck, cq, kq, ak, (bl, br, lr, al, ar)) =
@@ -90,7 +89,7 @@ module _ (fs ns key : List ℕ) (c : ℕ) (K : Forest ℕ) (lc : c < length ns) 
   Lands q p₀ Q p =
       ((p ≡ p₀) × (placeBy key c K Q ≡ tree c K Q)) ⊎ (In p Q × Linked fs (set (set ns c (getD ns p 0)) p c) q (placeBy key c K Q))
 
-  pub lands : (Q : Forest ℕ) (q p₀ : ℕ) → Linked fs ns q Q → Apart Q → (In c Q → ⊥) → ((j : ℕ) → In j K → In j Q → ⊥) → Lands q p₀ Q (spotOf key c K p₀ Q)
+  lands : (Q : Forest ℕ) (q p₀ : ℕ) → Linked fs ns q Q → Apart Q → (In c Q → ⊥) → ((j : ℕ) → In j K → In j Q → ⊥) → Lands q p₀ Q (spotOf key c K p₀ Q)
   unfolding spotOf placeBy
   lands bare q p₀ h a cQ kQ = inl (refl, refl)
   lands (tree b l r) q p₀ (e, lb, hl, hr) (bl, br, lr, al, ar) cQ kQ =
@@ -177,7 +176,7 @@ each-map P Q f bare h = tt
 each-map P Q f (tree i k r) (pi, pk, pr) = (f i (width k) pi, each-map P Q f k pk, each-map P Q f r pr)
 
 module _ (key : List ℕ) where
-  pub in-orderedBy : (F : Forest ℕ) (j : ℕ) → In j (orderedBy key F) → In j F
+  in-orderedBy : (F : Forest ℕ) (j : ℕ) → In j (orderedBy key F) → In j F
   unfolding orderedBy
   in-orderedBy bare j m = m
   in-orderedBy (tree i k r) j m = go (in-place key i (orderedBy key k) (orderedBy key r) j m) (in-orderedBy k j) (in-orderedBy r j)
@@ -192,10 +191,10 @@ module _ (key : List ℕ) where
   size-orderedBy bare = refl
   size-orderedBy (tree i k r) = let a = size-place key i (orderedBy key k) (orderedBy key r) in let b = size-orderedBy k in let d = size-orderedBy r in omega arith
 
-  pub apart-both : (i : ℕ) (k r : Forest ℕ) → Apart (orderedBy key k) → Apart (orderedBy key r) → Apart (tree i k r) → Apart (tree i (orderedBy key k) (orderedBy key r))
+  apart-both : (i : ℕ) (k r : Forest ℕ) → Apart (orderedBy key k) → Apart (orderedBy key r) → Apart (tree i k r) → Apart (tree i (orderedBy key k) (orderedBy key r))
   apart-both i k r sk sr (ik, ir, kr, ak, ar) = ((λ m. ik (in-orderedBy k i m)), (λ m. ir (in-orderedBy r i m)), (λ j m m′. kr j (in-orderedBy k j m) (in-orderedBy r j m′)), sk, sr)
 
-  pub apart-orderedBy : (F : Forest ℕ) → Apart F → Apart (orderedBy key F)
+  apart-orderedBy : (F : Forest ℕ) → Apart F → Apart (orderedBy key F)
   unfolding orderedBy
   apart-orderedBy bare a = a
   apart-orderedBy (tree i k r) a = apart-place key i (orderedBy key k) (orderedBy key r) (apart-both i k r (apart-orderedBy k (a .3)) (apart-orderedBy r (a .4)) a)

@@ -2,19 +2,16 @@
 -- two records compare byte by byte.
 use mathlib.Core.Path.{_≡_, refl, sym, ap, _∙_}
 use mathlib.Core.List.{List, [], _∷_, _++_}
-use mathlib.Core.Bool.{cond}
 use Prim.Native.Nat.{ℕ, zero, suc, _+_, _-_, _*_, _/_, _%_, _<_, _≤_}
 use native.Mathlib.Omega.{arith}
 use native.Mathlib.Decide.{ℕ-discrete, decLt}
 use lib.ListN.{length, getD, set}
 use lib.Seq.{getD-set-same, getD-set-other}
-use lib.Dec.{ltb}
 use borrow.Author.Tests.{lt-ltb, le-ltb}
 use Rattle.meaning.specs.Basics.{pick}
 use Rattle.meaning.specs.Number.{numF, num}
 use Rattle.theory.proofs.Numbers.{num-back}
-use Rattle.order.specs.declared.Order.{Order}
-use Rattle.order.specs.declared.Order.the-variants.{Before, Same, After}
+use Rattle.order.specs.declared.Order.the-variants.{Before, After}
 use Rattle.order.specs.Links.{thenBy, cmpN}
 use Rattle.order.specs.Keys.{written, keyOf, Keys}
 use Rattle.order.proofs.Comparing.{then-assoc, cmp-lt, cmp-gt, cmp-eq, pair-cmp, same-cmp, cmpL, cmp-same}

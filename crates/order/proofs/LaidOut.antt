@@ -1,15 +1,15 @@
 -- One call that lays a forest out as rows; rows that show a forest are that forest, renumbered in image order.
 use mathlib.Core.Path.{_≡_, refl, sym, ap, _∙_}
 use mathlib.Core.List.{List}
-use Prim.Native.Nat.{ℕ, zero, suc, _+_, _-_, _%_, _<_, _≤_}
+use Prim.Native.Nat.{ℕ, suc, _+_, _-_, _<_, _≤_}
 use native.Mathlib.Numerals.{add-one}
 use native.Mathlib.Omega.{arith}
 use native.Mathlib.Decide.{ℕ-discrete}
 use lib.ListN.{length, getD, set, length-set}
 use lib.Seq.{getD-set-same, getD-set-other}
-use Rattle.meaning.specs.Tree.{Forest, bare, tree, size, Tag}
-use Rattle.rows.specs.Rows.{labOf, tagAt, mapT, Holds, width, Counted, Hung}
-use Rattle.order.specs.Links.{forestAt, Finite}
+use Rattle.meaning.specs.Tree.{Forest, bare, tree, size}
+use Rattle.rows.specs.Rows.{tagAt, mapT, Holds, width, Counted, Hung}
+use Rattle.order.specs.Links.{forestAt}
 use Rattle.order.specs.LaidOut.{Shows, Roomy, Laid, Borne}
 use Rattle.order.proofs.Links.{Opens, opens, read-none}
 

@@ -1,18 +1,16 @@
--- Laws of the links: what is read at a row, and the order of what is read.
-use mathlib.Core.Path.{_≡_, refl, sym, ap, _∙_}
-use mathlib.Core.Logic.{_⊎_, inl, inr}
-use mathlib.Core.List.{List, [], _∷_, _++_}
-use mathlib.Core.Bool.{Bool, true, false, cond}
-use Prim.Native.Nat.{ℕ, zero, suc, _+_, _-_, _<_, _≤_}
+-- What is read at a row of links does not depend on the fuel, and one call of each function that compares.
+use mathlib.Core.Path.{_≡_, refl, sym}
+use mathlib.Core.List.{List}
+use mathlib.Core.Bool.{Bool, true, false}
+use Prim.Native.Nat.{ℕ, zero, suc, _<_, _≤_}
 use native.Mathlib.Omega.{arith}
-use lib.ListN.{length, getD, set, length-set}
-use lib.Dec.{ltb}
-use borrow.Author.Tests.{lt-ltb, le-ltb, ltb-true, ltb-false}
+use lib.ListN.{length, getD}
+use borrow.Author.Tests.{lt-ltb, le-ltb}
 use Rattle.meaning.specs.Tree.{Forest, bare, tree, size}
 use Rattle.order.specs.declared.Order.{Order}
 use Rattle.order.specs.declared.Order.the-variants.{Before, Same, After}
 use Rattle.order.proofs.Comparing.{cmp-lt, cmp-gt, cmp-eq}
-use Rattle.order.specs.Links.{forestFrom, forestAt, Linked, In, Apart, Finite, Wide, thenBy, cmpN, cmpF, cmpT, upTo, placeBy, orderedBy, goesFirst, spotOf, Ready, Placed, Loose, Ordered}
+use Rattle.order.specs.Links.{forestFrom, forestAt, Linked, Finite, thenBy, cmpN, cmpF, upTo, goesFirst, spotOf}
 
 -- ------------------------------------------------------------------ reading
 read-holds : (m : ℕ) (fs ns : List ℕ) (c : ℕ) (F : Forest ℕ) → Linked fs ns c F → size F ≤ m → forestFrom m fs ns c ≡ F
@@ -107,18 +105,18 @@ module _ (fs ns key : List ℕ) (x y : ℕ) where
 
 -- ------------------------------------------------------------------ goes first
 module _ (fs ns key : List ℕ) (c q a b : ℕ) (ea : a ≡ getD key c 0) (eb : b ≡ getD key q 0) where
-  abbrev first? : Bool
-  first? = goesFirst fs ns key c q
+  abbrev first : Bool
+  first = goesFirst fs ns key c q
 
-  pub first-less : a < b → true ≡ first?
+  pub first-less : a < b → true ≡ first
   unfolding goesFirst
   first-less h = sym (rw (← ea, ← eb, cmp-lt a b h))
 
-  pub first-more : b < a → false ≡ first?
+  pub first-more : b < a → false ≡ first
   unfolding goesFirst
   first-more h = sym (rw (← ea, ← eb, cmp-gt a b h))
 
-  pub first-kids : b ≤ a → a ≤ b → (i j : ℕ) → i ≡ getD fs c 0 → j ≡ getD fs q 0 → (o : Order) → o ≡ cmpF key (forestAt fs ns i) (forestAt fs ns j) → upTo o ≡ first?
+  pub first-kids : b ≤ a → a ≤ b → (i j : ℕ) → i ≡ getD fs c 0 → j ≡ getD fs q 0 → (o : Order) → o ≡ cmpF key (forestAt fs ns i) (forestAt fs ns j) → upTo o ≡ first
   unfolding goesFirst
   first-kids h g i j ei ej o eo = sym (rw (← ea, ← eb, cmp-eq a b h g, ← ei, ← ej, ← eo))
 

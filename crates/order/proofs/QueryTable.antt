@@ -8,11 +8,11 @@ use native.Mathlib.Omega.{arith}
 use native.Mathlib.Decide.{ℕ-discrete, decLt}
 use lib.ListN.{length, getD}
 use lib.Dec.{eqb, ltb}
-use borrow.Author.Tests.{eqb-true, eqb-false, eq-eqb, ne-eqb}
+use borrow.Author.Tests.{eqb-true, eq-eqb, ne-eqb}
 use Rattle.meaning.specs.Basics.{is, look}
 use Rattle.meaning.specs.Number.{largestLabel}
-use Rattle.meaning.specs.TreeQuery.{Lab, Row, node, Query, Live, Root, Tree}
-use Rattle.meaning.specs.Tree.{Forest, bare, tree, Tag, sameLink, choose, kidsFrom, labRow, tagOf, plant, grow, treeOf}
+use Rattle.meaning.specs.TreeQuery.{Row, node, Query, Live, Tree}
+use Rattle.meaning.specs.Tree.{tree, sameLink, choose, kidsFrom, labRow, tagOf, plant, grow, treeOf}
 use Rattle.meaning.specs.Image.{markCode}
 use Rattle.rows.specs.Rows.{labOf, tagAt, mapT, noRow}
 use Rattle.order.specs.Table.{childrenOf, grown, tableShape, tableTree, parentOf, tableRows, Table}

@@ -2,25 +2,25 @@
 use mathlib.Core.Path.{_≡_, refl, sym, ap, _∙_}
 use mathlib.Core.Logic.{_⊎_, inl, inr}
 use mathlib.Core.List.{List, [], _∷_}
-use mathlib.Core.Bool.{Bool, true, false, cond}
+use mathlib.Core.Bool.{cond}
 use Prim.Native.Nat.{ℕ, zero, suc, _+_, _-_, _%_, _<_, _≤_}
 use native.Mathlib.Omega.{arith}
 use native.Mathlib.Decide.{ℕ-discrete, decLt}
 use lib.ListN.{length, getD}
 use lib.Dec.{ltb, eqb}
 use borrow.Author.Tests.{eq-eqb, ne-eqb}
-use Rattle.meaning.specs.Tree.{Forest, bare, tree, size, Tag, plant}
+use Rattle.meaning.specs.Tree.{Forest, bare, tree, size, plant}
 use Rattle.meaning.specs.Image.{labCode, markCode, ordered}
 use Rattle.rows.specs.Rows.{labOf, tagAt, shape, mapT, treeRows, width, Counted, noRow, Rows}
 use Rattle.rows.proofs.Rows.{holds-is}
 use Rattle.order.specs.Table.{childrenOf, grown, tableShape, tableTree, Table}
 use Rattle.order.specs.Gathering.{Gathered}
 use Rattle.order.specs.Keys.{Keys}
-use Rattle.order.specs.Links.{In, orderedBy}
+use Rattle.order.specs.Links.{orderedBy}
 use Rattle.order.specs.LaidOut.{Shows, Borne}
-use Rattle.order.proofs.Inserting.{in-orderedBy, size-orderedBy, width-orderedBy, Each, each-map, each-orderedBy}
+use Rattle.order.proofs.Inserting.{size-orderedBy, width-orderedBy, Each, each-map, each-orderedBy}
 use Rattle.order.proofs.Records.{Keyed, ordered-by}
-use Rattle.order.proofs.Growing.{Children, all-children, children-few, Levels, level-le, grown-lt, size-grown}
+use Rattle.order.proofs.Growing.{Children, all-children, children-few, Levels, level-le, size-grown}
 use Rattle.order.proofs.Gathering.{slot-row}
 use Rattle.order.proofs.LaidOut.{numbered, width-numbered, holds-shown, hung-shown, counted-shown, tags-shown}
 
@@ -73,10 +73,6 @@ module _ (parent code mark : List ℕ) (n : ℕ) (T : Table parent code mark n) 
   pub size-shape : size (tableShape parent n) ≡ n
   unfolding tableShape
   size-shape = size-grown parent n lev levels
-
-  pub shape-lt : (j : ℕ) → In j (tableShape parent n) → j < n
-  unfolding tableShape
-  shape-lt j h = grown-lt parent n lev levels (suc n) noRow j h
 
   one-top : (b : ℕ) (js : List ℕ) → Children parent noRow n b js → length js ≤ 1
   one-top b [] k = omega arith
@@ -142,24 +138,24 @@ module _ (parent code mark : List ℕ) (n : ℕ) (T : Table parent code mark n) 
       pub size-sorted : size sorted ≡ n
       size-sorted = size-orderedBy key (tableShape parent n) ∙ size-shape
 
-      pub sorted-lt : (j : ℕ) → In j sorted → j < n
-      sorted-lt j h = shape-lt j (in-orderedBy key (tableShape parent n) j h)
-
       -- ------------------------------------------------------------ rows that show it
-      row-in : (row up span : List ℕ) (u at : ℕ) (F : Forest ℕ) → Shows row up span u at F → (j : ℕ) → at ≤ j → j < at + size F → In (getD row j 0) F
-      row-in row up span u at bare s j l m = absurd (omega arith)
-      row-in row up span u at (tree i k r) (a, b, c, d, e) j l m =
-          go (ℕ-discrete j at) (decLt j (suc at + size k)) (λ x y. row-in row up span at (suc at) k d j x y) (λ x y. row-in row up span u (suc at + size k) r e j x y)
+      right-sorted : Each Right sorted
+      right-sorted = each-orderedBy key Right (tableShape parent n) right-shape
+
+      row-right : (row up span : List ℕ) (u at : ℕ) (F : Forest ℕ) → Shows row up span u at F → Each Right F → (j : ℕ) → at ≤ j → j < at + size F → getD row j 0 < n
+      row-right row up span u at bare s h j l m = absurd (omega arith)
+      row-right row up span u at (tree i k r) (a, b, c, d, e) ((hi, w), hk, hr) j l m =
+          go (ℕ-discrete j at) (decLt j (suc at + size k)) (λ x y. row-right row up span at (suc at) k d hk j x y) (λ x y. row-right row up span u (suc at + size k) r e hr j x y)
         where
-          go : Dec (j ≡ at) → Dec (j < suc at + size k) → (suc at ≤ j → j < suc at + size k → In (getD row j 0) k)
-              → (suc at + size k ≤ j → j < suc at + size k + size r → In (getD row j 0) r) → In (getD row j 0) (tree i k r)
-          go (yes q) x f g = inl (rw q a)
-          go (no q) (yes x) f g = inr (inl (f (omega arith) x))
-          go (no q) (no x) f g = inr (inr (g (omega arith) (omega arith)))
+          go : Dec (j ≡ at) → Dec (j < suc at + size k) → (suc at ≤ j → j < suc at + size k → getD row j 0 < n)
+            → (suc at + size k ≤ j → j < suc at + size k + size r → getD row j 0 < n) → getD row j 0 < n
+          go (yes q) x f g = rw (q, a) hi
+          go (no q) (yes x) f g = f (omega arith) x
+          go (no q) (no x) f g = g (omega arith) (omega arith)
 
       module _ (row up span code′ mark′ kids : List ℕ) (S : Shows row up span noRow 0 sorted) where
         pub row-lt : (j : ℕ) → j < n → getD row j 0 < n
-        row-lt j l = let z = size-sorted in sorted-lt (getD row j 0) (row-in row up span noRow 0 sorted S j (omega arith) (omega arith))
+        row-lt j l = let z = size-sorted in row-right row up span noRow 0 sorted S right-sorted j (omega arith) (omega arith)
 
         shape-shown : shape span n ≡ numbered 0 sorted
         unfolding shape
@@ -184,7 +180,7 @@ module _ (parent code mark : List ℕ) (n : ℕ) (T : Table parent code mark n) 
             labels = λ u l. rw (B u l .0) (T .labels (getD row u 0) (row-lt u l));
             marked = λ u l. rw (B u l .1) (T .marked (getD row u 0) (row-lt u l));
             laid = rw shape-shown (let z = size-sorted in holds-shown row up span noRow 0 n sorted S (omega arith));
-            counted = rw shape-shown (counted-shown row up span code mark count n code′ mark′ kids B noRow 0 sorted S fits-n (each-counted sorted (each-orderedBy key Right (tableShape parent n) right-shape)));
+            counted = rw shape-shown (counted-shown row up span code mark count n code′ mark′ kids B noRow 0 sorted S fits-n (each-counted sorted right-sorted));
             hung = rw shape-shown (hung-shown row up span noRow 0 sorted S);
             single = rw (shape-shown, width-numbered 0 sorted, width-orderedBy key (tableShape parent n)) width-shape;
           }

@@ -8,9 +8,9 @@ use Prim.Native.Nat.{ℕ, zero, suc, _≤_, _<_}
 use lib.ListN.{length, getD}
 use lib.Dec.{eqb}
 use Rattle.meaning.specs.Number.{largestLabel}
-use Rattle.meaning.specs.TreeQuery.{Row, node}
+use Rattle.meaning.specs.TreeQuery.{node}
 use Rattle.meaning.specs.TreeQuery as TreeQuery
-use Rattle.meaning.specs.Tree.{Forest, bare, tree, Tag, plant}
+use Rattle.meaning.specs.Tree.{Forest, bare, Tag, plant}
 use Rattle.rows.specs.Rows.{labOf, tagAt, mapT, noRow}
 
 -- ------------------------------------------------------------------ reading the tree off the table

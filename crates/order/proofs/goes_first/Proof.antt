@@ -1,5 +1,4 @@
-use mathlib.Core.Path.{_≡_, refl, sym, ap, _∙_}
-use native.Mathlib.Omega.{arith}
+use mathlib.Core.Path.{sym, ap, _∙_}
 use Rattle.order.specs.Links.{upTo}
 use Rattle.order.proofs.Links.{first-less, first-more, first-kids}
 use borrow.Author.Needs.{needs}

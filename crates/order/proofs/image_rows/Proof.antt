@@ -1,6 +1,5 @@
 use borrow.Author.Needs.{needs}
-use mathlib.Core.Path.{_≡_, refl, sym, ap, _∙_}
-use native.Mathlib.Omega.{arith}
+use mathlib.Core.Path.{_∙_}
 use Rattle.order.proofs.ImageRows.{slots, keyable, top-slot, loose, roomy, bearing, finished}
 use borrow.Author.Needs.{needs}
 use Rattle.order.proofs.image_rows.Statement.{statement}
