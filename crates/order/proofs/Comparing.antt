@@ -44,7 +44,7 @@ three a b = go (decLt a b) (decLt b a)
 
 -- X and Y stand for the pairs (a, b) and (a′, b′), the first number weighing more
 pub pair-cmp : (a a′ b b′ X Y : ℕ) → (a < a′ → X < Y) → (a′ < a → Y < X) → (a ≡ a′ → b < b′ → X < Y) → (a ≡ a′ → b′ < b → Y < X) → (a ≡ a′ → b ≡ b′ → X ≡ Y)
-  → cmpN X Y ≡ thenBy (cmpN a a′) (cmpN b b′)
+    → cmpN X Y ≡ thenBy (cmpN a a′) (cmpN b b′)
 pair-cmp a a′ b b′ X Y p q r s t = go (three a a′) (three b b′)
   where
     go : Three a a′ → Three b b′ → cmpN X Y ≡ thenBy (cmpN a a′) (cmpN b b′)

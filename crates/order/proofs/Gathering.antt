@@ -25,7 +25,7 @@ slot-row n p l = sym (rw (lt-ltb p n l))
 pub slot-top : (n p : ℕ) → n ≤ p → n ≡ slotOf n p
 slot-top n p l = sym (rw (le-ltb p n l))
 
-pub slot-le : (n p : ℕ) → slotOf n p ≤ n
+slot-le : (n p : ℕ) → slotOf n p ≤ n
 slot-le n p = go (ltb p n) refl
   where
     go : (t : Bool) → ltb p n ≡ t → cond t p n ≤ n

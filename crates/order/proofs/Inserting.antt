@@ -23,7 +23,7 @@ kept fs ns fs′ ns′ len (tree i k r) c same (e, l, hk, hr) = (
   rw (same i (inl refl) .1) (kept fs ns fs′ ns′ len r (getD ns i 0) (λ j m. same j (inr (inr m))) hr),
 )
 
-pub in-lt : (fs ns : List ℕ) (F : Forest ℕ) (c j : ℕ) → Linked fs ns c F → In j F → j < length ns
+in-lt : (fs ns : List ℕ) (F : Forest ℕ) (c j : ℕ) → Linked fs ns c F → In j F → j < length ns
 in-lt fs ns bare c j h m = absurd m
 in-lt fs ns (tree i k r) c j (e, l, hk, hr) (inl m) = rw m l
 in-lt fs ns (tree i k r) c j (e, l, hk, hr) (inr (inl m)) = in-lt fs ns k (getD fs i 0) j hk m

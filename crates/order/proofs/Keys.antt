@@ -35,12 +35,12 @@ fuel : (f n : ℕ) → 0 < f → numF f n ≡ numF (suc (f - 1)) n
 fuel zero n h = absurd (omega arith)
 fuel (suc f) n h = ap (λ (z : ℕ). numF (suc z) n) (let e : f ≡ suc f - 1 = omega arith in e)
 
-pub data Bytes (n : ℕ) : Type 0 where
+data Bytes (n : ℕ) : Type 0 where
   one : n < 128 → num n ≡ n ∷ [] → written n ≡ 65536 * n → Bytes n
   two : 128 ≤ n → n < 16384 → num n ≡ (128 + n % 128) ∷ (n / 128) ∷ [] → written n ≡ 65536 * (128 + n % 128) + 256 * (n / 128) → Bytes n
   thr : 16384 ≤ n → n < 2097152 → num n ≡ (128 + n % 128) ∷ (128 + n / 128 % 128) ∷ (n / 16384) ∷ [] → written n ≡ 65536 * (128 + n % 128) + 256 * (128 + n / 128 % 128) + n / 16384 → Bytes n
 
-pub bytes : (n : ℕ) → n < 2097152 → Bytes n
+bytes : (n : ℕ) → n < 2097152 → Bytes n
 unfolding written
 bytes n l = go (decLt n 128) (decLt n 16384)
   where
@@ -140,15 +140,20 @@ module _ (l m c l′ m′ c′ : ℕ) (ll : l < 2097152) (lm : m < 128) (lc : c 
   key-cmp =
       let a = written-lt c lc in let a′ = written-lt c′ lc′ in
       pair-cmp (written l * 256 + m) (written l′ * 256 + m′) (written c) (written c′) (keyOf l m c) (keyOf l′ m′ c′)
-        (λ h. omega arith) (λ h. omega arith) (λ h i. omega arith) (λ h i. omega arith) (λ h i. omega arith)
+      (λ h. omega arith) (λ h. omega arith) (λ h i. omega arith) (λ h i. omega arith) (λ h i. omega arith)
       ∙ rw (pair-cmp (written l) (written l′) m m′ (written l * 256 + m) (written l′ * 256 + m′)
-        (λ h. omega arith) (λ h. omega arith) (λ h i. omega arith) (λ h i. omega arith) (λ h i. omega arith))
+      (λ h. omega arith) (λ h. omega arith) (λ h i. omega arith) (λ h i. omega arith) (λ h i. omega arith))
 
   -- the first three numbers of two records, with what follows them
   pub head-cmp : (x y : List ℕ) → cmpL (num l ++ (num m ++ (num c ++ x))) (num l′ ++ (num m′ ++ (num c′ ++ y))) ≡ thenBy (cmpN (keyOf l m c) (keyOf l′ m′ c′)) (cmpL x y)
   head-cmp x y =
-      rw (num-cmp l l′ (num m ++ (num c ++ x)) (num m′ ++ (num c′ ++ y)) ll ll′, num-cmp m m′ (num c ++ x) (num c′ ++ y) (omega arith) (omega arith), num-cmp c c′ x y lc lc′,
-        mark-cmp, key-cmp) (simp then-assoc)
+      rw (
+        num-cmp l l′ (num m ++ (num c ++ x)) (num m′ ++ (num c′ ++ y)) ll ll′,
+        num-cmp m m′ (num c ++ x) (num c′ ++ y) (omega arith) (omega arith),
+        num-cmp c c′ x y lc lc′,
+        mark-cmp,
+        key-cmp,
+      ) (simp then-assoc)
 
   -- equal keys have equally many children
   pub key-back : keyOf l m c ≡ keyOf l′ m′ c′ → c ≡ c′

@@ -62,12 +62,12 @@ module _ (parent code : List ℕ) where
   kids-top zero j = refl
   kids-top (suc k) j = rw (link-top (getD parent j 0), kids-top k (suc j)) (chosen (eqb (getD parent j 0) noRow) j (kidsFrom none (tableRows parent code k (suc j)) (suc j)))
 
-  pub length-rows : (k j : ℕ) → length (tableRows parent code k j) ≡ k
+  length-rows : (k j : ℕ) → length (tableRows parent code k j) ≡ k
   unfolding tableRows
   length-rows zero j = refl
   length-rows (suc k) j = ap suc (length-rows k (suc j))
 
-  pub look-rows : (k j i : ℕ) → i < k → look (tableRows parent code k j) i ≡ some (node (parentOf (getD parent (j + i) 0)) (labOf (getD code (j + i) 0)))
+  look-rows : (k j i : ℕ) → i < k → look (tableRows parent code k j) i ≡ some (node (parentOf (getD parent (j + i) 0)) (labOf (getD code (j + i) 0)))
   unfolding tableRows
   look-rows zero j i l = absurd (omega arith)
   look-rows (suc k) j zero l = let z : j + 0 ≡ j = omega arith in rw z

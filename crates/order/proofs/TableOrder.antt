@@ -70,7 +70,7 @@ module _ (parent code mark : List ℕ) (n : ℕ) (T : Table parent code mark n) 
       go i l (no d) = let h = T .linked i l d in (row-lev i l ∙ ap suc (h .1 ∙ sym (row-lev (getD parent i 0) (h .0))), inl (h .0))
 
   -- the whole tree has n nodes, and at most one top
-  pub size-shape : size (tableShape parent n) ≡ n
+  size-shape : size (tableShape parent n) ≡ n
   unfolding tableShape
   size-shape = size-grown parent n lev levels
 
@@ -79,7 +79,7 @@ module _ (parent code mark : List ℕ) (n : ℕ) (T : Table parent code mark n) 
   one-top b (j ∷ []) k = omega arith
   one-top b (i ∷ (j ∷ js)) (l, u, e, (l′, u′, e′, k)) = let x = T .single i u e in let y = T .single j u′ e′ in absurd (omega arith)
 
-  pub width-shape : width (tableShape parent n) ≤ 1
+  width-shape : width (tableShape parent n) ≤ 1
   unfolding tableShape
   width-shape = rw (width-grown parent n (suc n) noRow (omega arith)) (one-top 0 (childrenOf noRow parent n 0) (all-children parent n noRow))
 
@@ -93,7 +93,7 @@ module _ (parent code mark : List ℕ) (n : ℕ) (T : Table parent code mark n) 
     Right j w = (j < n) × (getD count j 0 ≡ w)
 
     right-plant : (m p b : ℕ) (js : List ℕ) → ((j : ℕ) → j < n → getD parent j 0 ≡ p → (0 < m) × Each Right (grown m parent n j))
-      → Children parent p n b js → Each Right (plant (λ j. j) (grown m parent n) js)
+        → Children parent p n b js → Each Right (plant (λ j. j) (grown m parent n) js)
     right-plant m p b [] g k = tt
     right-plant m p b (j ∷ js) g (l, u, e, k) =
         let h = g j u e in ((u, count-is j u ∙ sym (width-grown parent n m j (h .0))), h .1, right-plant m p (suc j) js g k)
@@ -104,10 +104,10 @@ module _ (parent code mark : List ℕ) (n : ℕ) (T : Table parent code mark n) 
     right-grown (suc m) p h =
         right-plant m p 0 (childrenOf p parent n 0)
         (λ j l e.
-          let s = levels .step j l .0 in
-          let y = ap lev e in
-          let b = level-le parent n lev levels j l in
-          (omega arith, right-grown m j (omega arith)))
+        let s = levels .step j l .0 in
+        let y = ap lev e in
+        let b = level-le parent n lev levels j l in
+        (omega arith, right-grown m j (omega arith)))
         (all-children parent n p)
 
     right-shape : Each Right (tableShape parent n)
@@ -131,7 +131,7 @@ module _ (parent code mark : List ℕ) (n : ℕ) (T : Table parent code mark n) 
       abbrev sorted : Forest ℕ
       sorted = orderedBy key (tableShape parent n)
 
-      pub tree-sorted : mapT (tagAt code mark) sorted ≡ ordered (tableTree parent code mark n)
+      tree-sorted : mapT (tagAt code mark) sorted ≡ ordered (tableTree parent code mark n)
       unfolding tableTree
       tree-sorted = ordered-by key (tagAt code mark) (tableShape parent n) (each-map Right (Keyed key (tagAt code mark)) right-keyed (tableShape parent n) right-shape)
 
@@ -148,7 +148,7 @@ module _ (parent code mark : List ℕ) (n : ℕ) (T : Table parent code mark n) 
           go (ℕ-discrete j at) (decLt j (suc at + size k)) (λ x y. row-right row up span at (suc at) k d hk j x y) (λ x y. row-right row up span u (suc at + size k) r e hr j x y)
         where
           go : Dec (j ≡ at) → Dec (j < suc at + size k) → (suc at ≤ j → j < suc at + size k → getD row j 0 < n)
-            → (suc at + size k ≤ j → j < suc at + size k + size r → getD row j 0 < n) → getD row j 0 < n
+              → (suc at + size k ≤ j → j < suc at + size k + size r → getD row j 0 < n) → getD row j 0 < n
           go (yes q) x f g = rw (q, a) hi
           go (no q) (yes x) f g = f (omega arith) x
           go (no q) (no x) f g = g (omega arith) (omega arith)

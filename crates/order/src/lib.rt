@@ -14,14 +14,9 @@ ghost use Rattle.order.specs.Links.{Wide, Finite, forestAt, cmpF, goesFi
 ghost use Rattle.order.specs.LaidOut.{Roomy, Laid, Borne, Bearing};
 ghost use Rattle.order.specs.Contract.{Room};
 
-// How a record stands to another one in byte order.
-pub enum Order {
-    Before,
-    Same,
-    After,
-}
+// ---------------------------------------------------------------- links
 
-// What stands at i.
+// What stands at i. One call for each read keeps the proofs of its callers short.
 fn link(t: &[u16], i: usize) -> usize
     requires { ⌜ i < length (now t) ⌝ }
     ensures { λ r. ⌜ (r ≡ getD (now (t .entry)) i 0) × (r < 65536) ⌝ }
@@ -37,6 +32,96 @@ fn set_link(t: &mut [u16], i: usize, v: usize)
     t[i] = v as u16;
 }
 
+// ---------------------------------------------------------------- the children of each row, as lists
+
+// Where the list of p's children starts in `first`: behind the rows there is one more slot, for the top, which has no parent.
+fn slot(p: usize, n: usize) -> usize
+    ensures { λ r. ⌜ r ≡ slotOf n p ⌝ }
+{
+    if p < n {
+        return p;
+    }
+    n
+}
+
+// Empties the lists of n rows and of the top: 65535 leads nowhere.
+fn clear(n: usize, first: &mut [u16], count: &mut [u16])
+    requires { ⌜ (n < length (now first)) × (n < length (now count)) ⌝ }
+    ensures { λ _. ⌜ Cleared (n + 1) (now (first .exit)) (now (count .exit)) ⌝ }
+{
+    let mut i: usize = 0;
+    while i <= n {
+        set_link(first, i, 65535);
+        set_link(count, i, 0);
+        i += 1;
+    }
+}
+
+// Gives each parent the list of its children, in the order of the table, and their number.
+fn gather(parent: &[u16], n: usize, first: &mut [u16], next: &mut [u16], count: &mut [u16])
+    requires { ⌜ Slots (now parent) n (now first) (now next) (now count) × Cleared (n + 1) (now first) (now count) ⌝ }
+    ensures { λ _. ⌜ Gathered (now (parent .entry)) n 0 (now (first .exit)) (now (next .exit)) (now (count .exit)) ⌝ }
+{
+    let mut i = n;
+    // from the last row to the first: a row is put in front of its later brothers
+    while 0 < i {
+        i -= 1;
+        let p = slot(link(parent, i), n);
+        let h = link(first, p);
+        set_link(next, i, h);
+        set_link(first, p, i);
+        let k = link(count, p);
+        set_link(count, p, k + 1);
+    }
+}
+
+// ---------------------------------------------------------------- keys
+
+// The bytes of x, filled up to three, as one number: it compares as the bytes do, where x itself would not (128 is written 80 01, 255 is FF 01, and
+// 256 is 80 02).
+fn bytes_of(x: u64) -> u64
+    requires { ⌜ x < 2097152 ⌝ }
+    ensures { λ r. ⌜ (r ≡ written x) × (r < 16777216) ⌝ }
+{
+    if x < 128 {
+        return 65536 * x;
+    }
+    let a = 65536 * (128 + x % 128);
+    if x < 16384 {
+        return a + 256 * (x / 128);
+    }
+    a + 256 * (128 + x / 128 % 128) + x / 16384
+}
+
+// A label code among numbers of 64 bits.
+fn wide(x: u32) -> u64
+    ensures { λ r. ⌜ r ≡ x ⌝ }
+{
+    x as u64
+}
+
+// A mark among numbers of 64 bits.
+fn wide8(x: u8) -> u64
+    ensures { λ r. ⌜ (r ≡ x) × (r < 256) ⌝ }
+{
+    x as u64
+}
+
+// The key of each row: label code, mark and number of children, each as its bytes. A mark is one byte.
+fn make_keys(code: &[u32], mark: &[u8], count: &[u16], n: usize, key: &mut [u64])
+    requires { ⌜ Keyable (now code) (now mark) (now count) n (now key) ⌝ }
+    ensures { λ _. ⌜ Keys (now (code .entry)) (now (mark .entry)) (now (count .entry)) n (now (key .exit)) ⌝ }
+{
+    let mut i: usize = 0;
+    while i < n {
+        let l = bytes_of(wide(code[i]));
+        let m = wide8(mark[i]);
+        let c = bytes_of(link(count, i) as u64);
+        key[i] = (l * 256 + m) * 16777216 + c;
+        i += 1;
+    }
+}
+
 // The key of row i.
 fn key_at(t: &[u64], i: usize) -> u64
     requires { ⌜ i < length (now t) ⌝ }
@@ -45,7 +130,17 @@ fn key_at(t: &[u64], i: usize) -> u64
     t[i]
 }
 
-// The forest at x against the forest at y.
+// ---------------------------------------------------------------- brothers in ascending byte order
+
+// How one record, or one list of records, stands to another in byte order.
+pub enum Order {
+    Before,
+    Same,
+    After,
+}
+
+// The brothers from x on against the brothers from y on: the first two, then their later brothers. Equal keys have equally many children, so two
+// lists that are compared end together, and records are compared byte by byte although none is written. At most one frame a row is open.
 fn compare(first: &[u16], next: &[u16], key: &[u64], x: usize, y: usize) -> Order
     requires { ⌜ Wide (now first) (now next) (now key) × Finite (now first) (now next) x × Finite (now first) (now next) y ⌝ }
     ensures { λ r. ⌜ r ≡ cmpF (now (key .entry)) (forestAt (now (first .entry)) (now (next .entry)) x) (forestAt (now (first .entry)) (now (next .entry)) y) ⌝ }
@@ -82,7 +177,7 @@ fn compare(first: &[u16], next: &[u16], key: &[u64], x: usize, y: usize) -> Orde
     }
 }
 
-// Whether the tree at c goes before the tree at q or is equal to it.
+// Whether the record of the tree at c goes before that of the tree at q or is equal to it. Later brothers don't matter.
 fn goes_first(first: &[u16], next: &[u16], key: &[u64], c: usize, q: usize) -> bool
     requires { ⌜ Wide (now first) (now next) (now key) × (c < length (now next)) × (q < length (now next)) × Finite (now first) (now next) (getD (now first) c 0) × Finite (now first) (now next) (getD (now first) q 0) ⌝ }
     ensures { λ r. ⌜ r ≡ goesFirst (now (first .entry)) (now (next .entry)) (now (key .entry)) c q ⌝ }
@@ -105,7 +200,7 @@ fn goes_first(first: &[u16], next: &[u16], key: &[u64], c: usize, q: usize) -> b
     }
 }
 
-// The last tree of the list at q that goes before the tree at c; next.len() where there is none.
+// The last tree of the list at q that goes before the tree at c; next.len() where there is none. It changes nothing: `place` does, by two links.
 fn spot(first: &[u16], next: &[u16], key: &[u64], c: usize, q: usize) -> usize
     requires { ⌜ Wide (now first) (now next) (now key) × (c < length (now next)) × Finite (now first) (now next) (getD (now first) c 0) × Finite (now first) (now next) q ⌝ }
     ensures { λ r. ⌜ r ≡ spotOf (now (key .entry)) c (forestAt (now (first .entry)) (now (next .entry)) (getD (now (first .entry)) c 0)) (length (now (next .entry))) (forestAt (now (first .entry)) (now (next .entry)) q) ⌝ }
@@ -123,7 +218,7 @@ fn spot(first: &[u16], next: &[u16], key: &[u64], c: usize, q: usize) -> usize
     p
 }
 
-// Puts the tree at c into the ordered list at q, and returns the first tree.
+// Puts the tree at c into the list at q, which is in order, and returns the first tree.
 fn place(first: &[u16], next: &mut [u16], key: &[u64], c: usize, q: usize) -> usize
     requires { ⌜ Ready (now first) (now next) (now key) c q ⌝ }
     ensures { λ r. ⌜ Placed (now (first .entry)) (now (next .entry)) (now (key .entry)) c q (now (next .exit)) r ⌝ }
@@ -140,7 +235,8 @@ fn place(first: &[u16], next: &mut [u16], key: &[u64], c: usize, q: usize) -> us
     q
 }
 
-// Puts the forest at c in order, and returns its first tree.
+// Puts the forest at c in order, and returns its first tree. Insertion goes from the last brother to the first, so that a list which is in order
+// already costs one comparison a row.
 fn in_order(first: &mut [u16], next: &mut [u16], key: &[u64], c: usize) -> usize
     requires { ⌜ Loose (now first) (now next) (now key) c ⌝ }
     ensures { λ r. ⌜ Ordered (now (first .entry)) (now (next .entry)) (now (key .entry)) c (now (first .exit)) (now (next .exit)) r ⌝ }
@@ -157,88 +253,7 @@ fn in_order(first: &mut [u16], next: &mut [u16], key: &[u64], c: usize) -> usize
     place(first, next, key, c, q)
 }
 
-// Where the list of p's children starts in `first`: behind the rows there is one more slot, for the top, which has no parent.
-fn slot(p: usize, n: usize) -> usize
-    ensures { λ r. ⌜ r ≡ slotOf n p ⌝ }
-{
-    if p < n {
-        return p;
-    }
-    n
-}
-
-// Empties the lists of n rows and of the top.
-fn clear(n: usize, first: &mut [u16], count: &mut [u16])
-    requires { ⌜ (n < length (now first)) × (n < length (now count)) ⌝ }
-    ensures { λ _. ⌜ Cleared (n + 1) (now (first .exit)) (now (count .exit)) ⌝ }
-{
-    let mut i: usize = 0;
-    while i <= n {
-        set_link(first, i, 65535);
-        set_link(count, i, 0);
-        i += 1;
-    }
-}
-
-// Gives each parent the list of its children, in the order of the table, and their number.
-fn gather(parent: &[u16], n: usize, first: &mut [u16], next: &mut [u16], count: &mut [u16])
-    requires { ⌜ Slots (now parent) n (now first) (now next) (now count) × Cleared (n + 1) (now first) (now count) ⌝ }
-    ensures { λ _. ⌜ Gathered (now (parent .entry)) n 0 (now (first .exit)) (now (next .exit)) (now (count .exit)) ⌝ }
-{
-    let mut i = n;
-    // from the last row to the first: a row is put in front of its later brothers
-    while 0 < i {
-        i -= 1;
-        let p = slot(link(parent, i), n);
-        let h = link(first, p);
-        set_link(next, i, h);
-        set_link(first, p, i);
-        let k = link(count, p);
-        set_link(count, p, k + 1);
-    }
-}
-
-// The bytes of x, filled up to three, as one number.
-fn bytes_of(x: u64) -> u64
-    requires { ⌜ x < 2097152 ⌝ }
-    ensures { λ r. ⌜ (r ≡ written x) × (r < 16777216) ⌝ }
-{
-    if x < 128 {
-        return 65536 * x;
-    }
-    let a = 65536 * (128 + x % 128);
-    if x < 16384 {
-        return a + 256 * (x / 128);
-    }
-    a + 256 * (128 + x / 128 % 128) + x / 16384
-}
-
-fn wide(x: u32) -> u64
-    ensures { λ r. ⌜ r ≡ x ⌝ }
-{
-    x as u64
-}
-
-fn wide8(x: u8) -> u64
-    ensures { λ r. ⌜ (r ≡ x) × (r < 256) ⌝ }
-{
-    x as u64
-}
-
-// The key of each row: label code, mark and number of children, byte by byte.
-fn make_keys(code: &[u32], mark: &[u8], count: &[u16], n: usize, key: &mut [u64])
-    requires { ⌜ Keyable (now code) (now mark) (now count) n (now key) ⌝ }
-    ensures { λ _. ⌜ Keys (now (code .entry)) (now (mark .entry)) (now (count .entry)) n (now (key .exit)) ⌝ }
-{
-    let mut i: usize = 0;
-    while i < n {
-        let l = bytes_of(wide(code[i]));
-        let m = wide8(mark[i]);
-        let c = bytes_of(link(count, i) as u64);
-        key[i] = (l * 256 + m) * 16777216 + c;
-        i += 1;
-    }
-}
+// ---------------------------------------------------------------- rows in image order
 
 // Lays the forest at c out from row `at` on, its brothers below row u, and returns the first row behind it.
 fn lay(
@@ -267,7 +282,7 @@ fn lay(
     lay(first, next, q, u, e, row, up, span)
 }
 
-// Gives each of the n rows what its row of the table bears.
+// Gives each of the n rows the label code, the mark and the number of children of its row in the table.
 fn bear(
     row: &[u16],
     code: &[u32],

@@ -26,43 +26,33 @@ compare-below t = and 3 compare-kinds.ps (falls 3 compare-kinds.ps _<_ μ-compar
 abbrev compare-claims : ℕ → compare-lts.Claims
 compare-claims t = (key-at-reads.Asked, key-at-reads.Learnt, link-reads.Asked, link-reads.Learnt, compare-below t, compare.Post)
 
--- src/lib.rt:37:13
 compare-returns : (t : ℕ) → compare-lts.Need-returns (compare-claims t) (compare-at t) compare.Post
 compare-returns t c = none-none _ _ _ _ _ (c .before .if1 .taken) (c .if2 .taken)
 
--- src/lib.rt:39:9
 compare-returns-2 : (t : ℕ) → compare-lts.Need-returns-2 (compare-claims t) (compare-at t) compare.Post
 compare-returns-2 t c = none-some _ _ _ _ _ (c .before .if1 .taken) (c .before .before .before .before .before .pre .1 .2) (c .if2 .left)
 
--- src/lib.rt:42:9
 compare-returns-3 : (t : ℕ) → compare-lts.Need-returns-3 (compare-claims t) (compare-at t) compare.Post
 compare-returns-3 t c = some-none _ _ _ _ _ (c .before .before .before .before .before .pre .1 .1) (c .before .if1 .left) (c .if3 .taken)
 
--- src/lib.rt:44:9
 compare-key-at-requires : (t : ℕ) → compare-lts.Need-key-at-requires (compare-claims t) (compare-at t) compare.Post
 compare-key-at-requires t c κs = omega (arith, c .before .before .before .before .before .pre .1 .0 .keys)
 
--- src/lib.rt:45:9
 compare-key-at-requires-2 : (t : ℕ) → compare-lts.Need-key-at-requires-2 (compare-claims t) (compare-at t) compare.Post
 compare-key-at-requires-2 t c κs = omega (arith, c .before .before .before .before .before .before .pre .1 .0 .keys)
 
--- src/lib.rt:47:9
 compare-returns-4 : (t : ℕ) → compare-lts.Need-returns-4 (compare-claims t) (compare-at t) compare.Post
 compare-returns-4 t c = by-less _ _ _ _ _ (c .before .before .before .before .before .before .before .before .pre .1 .1) (c .before .before .before .before .before .before .before .before .pre .1 .2) (c .before .before .before .before .if1 .left) (c .before .before .before .if3 .left) _ _ (c .before .before .key-at .ensures) (c .before .key-at2 .ensures) (c .if4 .taken)
 
--- src/lib.rt:50:9
 compare-returns-5 : (t : ℕ) → compare-lts.Need-returns-5 (compare-claims t) (compare-at t) compare.Post
 compare-returns-5 t c = by-more _ _ _ _ _ (c .before .before .before .before .before .before .before .before .before .pre .1 .1) (c .before .before .before .before .before .before .before .before .before .pre .1 .2) (c .before .before .before .before .before .if1 .left) (c .before .before .before .before .if3 .left) _ _ (c .before .before .before .key-at .ensures) (c .before .before .key-at2 .ensures) (c .if5 .taken)
 
--- src/lib.rt:52:9
 compare-link-requires : (t : ℕ) → compare-lts.Need-link-requires (compare-claims t) (compare-at t) compare.Post
 compare-link-requires t c κs = omega (arith, c .before .before .before .before .before .before .before .before .before .pre .1 .0 .firsts)
 
--- src/lib.rt:53:9
 compare-link-requires-2 : (t : ℕ) → compare-lts.Need-link-requires-2 (compare-claims t) (compare-at t) compare.Post
 compare-link-requires-2 t c κs = omega (arith, c .before .before .before .before .before .before .before .before .before .before .pre .1 .0 .firsts)
 
--- src/lib.rt:54:9
 compare-compare-requires : (t : ℕ) → compare-lts.Need-compare-requires (compare-claims t) (compare-at t) compare.Post
 compare-compare-requires t c κs =
     let s = c .before .before .before .before .before .before .before .before .before .before .before in
@@ -70,27 +60,21 @@ compare-compare-requires t c κs =
     let j = goes-down _ _ _ _ (s .pre .1 .2) (c .before .before .before .before .before .before .if3 .left) (c .link2 .ensures .0) in
     (rw (← s .pre .0) (i .1), (s .pre .1 .0, i .0, j .0))
 
--- src/lib.rt:56:26
 compare-enum-told : (t : ℕ) → compare-lts.Need-enum-told (compare-claims t) (compare-at t) compare.Post
 compare-enum-told t c = search needs
 
--- src/lib.rt:57:25
 compare-enum-told-2 : (t : ℕ) → compare-lts.Need-enum-told-2 (compare-claims t) (compare-at t) compare.Post
 compare-enum-told-2 t c = search needs
 
--- src/lib.rt:59:17
 compare-enum-told-3 : (t : ℕ) → compare-lts.Need-enum-told-3 (compare-claims t) (compare-at t) compare.Post
 compare-enum-told-3 t c = search needs
 
--- src/lib.rt:59:17
 compare-link-requires-3 : (t : ℕ) → compare-lts.Need-link-requires-3 (compare-claims t) (compare-at t) compare.Post
 compare-link-requires-3 t c κs = omega arith
 
--- src/lib.rt:60:17
 compare-link-requires-4 : (t : ℕ) → compare-lts.Need-link-requires-4 (compare-claims t) (compare-at t) compare.Post
 compare-link-requires-4 t c κs = omega arith
 
--- src/lib.rt:61:13
 compare-compare-requires-2 : (t : ℕ) → compare-lts.Need-compare-requires-2 (compare-claims t) (compare-at t) compare.Post
 compare-compare-requires-2 t c κs =
     let s = c .before .before .before .before .before .before .before .before .before .before .before .before .before .before .before .before in
@@ -98,17 +82,14 @@ compare-compare-requires-2 t c κs =
     let j = goes-along _ _ _ _ (s .pre .1 .2) (c .before .before .before .before .before .before .before .before .before .before .before .if3 .left) (c .link4 .ensures .0) in
     (rw (← s .pre .0) (i .1), (s .pre .1 .0, i .0, j .0))
 
--- src/lib.rt:30:1
 compare-returns-6 : (t : ℕ) → compare-lts.Need-returns-6 (compare-claims t) (compare-at t) compare.Post
 compare-returns-6 t c = by-before _ _ _ _ _ (c .before .before .before .before .before .before .before .before .before .before .before .before .before .before .pre .1 .1) (c .before .before .before .before .before .before .before .before .before .before .before .before .before .before .pre .1 .2) (c .before .before .before .before .before .before .before .before .before .before .if1 .left) (c .before .before .before .before .before .before .before .before .before .if3 .left) _ _ (c .before .before .before .before .before .before .before .before .key-at .ensures) (c .before .before .before .before .before .before .before .key-at2 .ensures)
     (c .before .before .before .before .before .before .if4 .left) (c .before .before .before .before .before .if5 .left) _ _ (c .before .before .before .before .link .ensures .0) (c .before .before .before .link2 .ensures .0) _ (c .before .before .compare .ensures) (c .enum-told .given .1)
 
--- src/lib.rt:30:1
 compare-returns-7 : (t : ℕ) → compare-lts.Need-returns-7 (compare-claims t) (compare-at t) compare.Post
 compare-returns-7 t c = by-after _ _ _ _ _ (c .before .before .before .before .before .before .before .before .before .before .before .before .before .before .pre .1 .1) (c .before .before .before .before .before .before .before .before .before .before .before .before .before .before .pre .1 .2) (c .before .before .before .before .before .before .before .before .before .before .if1 .left) (c .before .before .before .before .before .before .before .before .before .if3 .left) _ _ (c .before .before .before .before .before .before .before .before .key-at .ensures) (c .before .before .before .before .before .before .before .key-at2 .ensures)
     (c .before .before .before .before .before .before .if4 .left) (c .before .before .before .before .before .if5 .left) _ _ (c .before .before .before .before .link .ensures .0) (c .before .before .before .link2 .ensures .0) _ (c .before .before .compare .ensures) (c .enum-told2 .given .1)
 
--- src/lib.rt:30:1
 compare-returns-8 : (t : ℕ) → compare-lts.Need-returns-8 (compare-claims t) (compare-at t) compare.Post
 compare-returns-8 t c = by-rest _ _ _ _ _ (c .before .before .before .before .before .before .before .before .before .before .before .before .before .before .before .before .before .pre .1 .1) (c .before .before .before .before .before .before .before .before .before .before .before .before .before .before .before .before .before .pre .1 .2) (c .before .before .before .before .before .before .before .before .before .before .before .before .before .if1 .left) (c .before .before .before .before .before .before .before .before .before .before .before .before .if3 .left) _ _ (c .before .before .before .before .before .before .before .before .before .before .before .key-at .ensures) (c .before .before .before .before .before .before .before .before .before .before .key-at2 .ensures)
     (c .before .before .before .before .before .before .before .before .before .if4 .left) (c .before .before .before .before .before .before .before .before .if5 .left) _ _ (c .before .before .before .before .before .before .before .link .ensures .0) (c .before .before .before .before .before .before .link2 .ensures .0) _ (c .before .before .before .before .before .compare .ensures) (c .before .before .before .enum-told3 .given .1)

@@ -29,49 +29,39 @@ in-order-below t =
 abbrev in-order-claims : ℕ → in-order-lts.Claims
 in-order-claims t = (link-reads.Asked, link-reads.Learnt, in-order-below t, in-order.Post, set-link-reads.Asked, set-link-reads.Learnt, place-reads.Asked, place-reads.Learnt)
 
--- src/lib.rt:138:9
 in-order-returns : (t : ℕ) → in-order-lts.Need-returns (in-order-claims t) (in-order-at t) in-order.Post
 in-order-returns t c = ordered-none _ _ _ _ (c .before .before .before .before .pre .1) (c .if1 .taken)
 
--- src/lib.rt:140:9
 in-order-link-requires : (t : ℕ) → in-order-lts.Need-link-requires (in-order-claims t) (in-order-at t) in-order.Post
 in-order-link-requires t c κs = omega (arith, c .before .before .before .before .before .pre .1 .wide .firsts)
 
--- src/lib.rt:141:9
 in-order-in-order-requires : (t : ℕ) → in-order-lts.Need-in-order-requires (in-order-claims t) (in-order-at t) in-order.Post
 in-order-in-order-requires t c κs = (
   rw (← c .before .before .before .before .before .before .before .before .pre .0) (goes-down _ _ _ _ (c .before .before .before .before .before .before .before .before .pre .1 .finite) (c .before .before .before .before .if1 .left) (c .before .before .link .ensures .0) .1),
   kids-loose _ _ _ _ (c .before .before .before .before .before .before .before .before .pre .1) (c .before .before .before .before .if1 .left) _ (c .before .before .link .ensures .0) (c .before .before .link .ensures .1),
 )
 
--- src/lib.rt:142:5
 in-order-set-link-requires : (t : ℕ) → in-order-lts.Need-set-link-requires (in-order-claims t) (in-order-at t) in-order.Post
 in-order-set-link-requires t c κs = (omega (arith, c .before .before .before .before .before .in-order .ensures .firsts, c .before .before .before .before .before .before .before .before .before .before .before .before .before .before .pre .1 .wide .firsts), c .before .before .before .before .before .in-order .ensures .low)
 
--- src/lib.rt:143:9
 in-order-link-requires-2 : (t : ℕ) → in-order-lts.Need-link-requires-2 (in-order-claims t) (in-order-at t) in-order.Post
 in-order-link-requires-2 t c κs = omega (arith, c .before .before .before .before .before .before .before .before .before .in-order .ensures .nexts)
 
--- src/lib.rt:144:9
 in-order-in-order-requires-2 : (t : ℕ) → in-order-lts.Need-in-order-requires-2 (in-order-claims t) (in-order-at t) in-order.Post
 in-order-in-order-requires-2 t c κs =
     let h = rest-loose _ _ _ _ (c .before .before .before .before .before .before .before .before .before .before .before .before .before .before .before .before .before .before .before .before .before .pre .1) (c .before .before .before .before .before .before .before .before .before .before .before .before .before .before .before .before .before .if1 .left) _ (c .before .before .before .before .before .before .before .before .before .before .before .before .before .before .before .link .ensures .0) (c .before .before .before .before .before .before .before .before .before .before .before .before .before .before .before .link .ensures .1) _ _ _ (c .before .before .before .before .before .before .before .before .before .before .before .before .in-order .ensures) _ (c .before .before .before .before .before .before .set-link .ensures) _ (c .before .before .link2 .ensures .0) (c .before .before .link2 .ensures .1) in
     (rw (← c .before .before .before .before .before .before .before .before .before .before .before .before .before .before .before .before .before .before .before .before .before .pre .0) (h .1), h .0)
 
--- src/lib.rt:145:5
 in-order-place-requires : (t : ℕ) → in-order-lts.Need-place-requires (in-order-claims t) (in-order-at t) in-order.Post
 in-order-place-requires t c κs =
     ready _ _ _ _ (c .before .before .before .before .before .before .before .before .before .before .before .before .before .before .before .before .before .before .before .before .before .before .before .before .before .before .before .before .pre .1) (c .before .before .before .before .before .before .before .before .before .before .before .before .before .before .before .before .before .before .before .before .before .before .before .before .if1 .left) _ (c .before .before .before .before .before .before .before .before .before .before .before .before .before .before .before .before .before .before .before .before .before .before .link .ensures .0) (c .before .before .before .before .before .before .before .before .before .before .before .before .before .before .before .before .before .before .before .before .before .before .link .ensures .1) _ _ _ (c .before .before .before .before .before .before .before .before .before .before .before .before .before .before .before .before .before .before .before .in-order .ensures) _ (c .before .before .before .before .before .before .before .before .before .before .before .before .before .set-link .ensures) _ (c .before .before .before .before .before .before .before .before .before .link2 .ensures .0) (c .before .before .before .before .before .before .before .before .before .link2 .ensures .1) _ _ _ (c .before .before .before .before .before .before .in-order2 .ensures)
 
--- src/lib.rt:132:1
 in-order-same-length : (t : ℕ) → in-order-lts.Need-same-length (in-order-claims t) (in-order-at t) in-order.Post
 in-order-same-length t c = search needs
 
--- src/lib.rt:132:1
 in-order-same-length-2 : (t : ℕ) → in-order-lts.Need-same-length-2 (in-order-claims t) (in-order-at t) in-order.Post
 in-order-same-length-2 t c = search needs
 
--- src/lib.rt:132:1
 in-order-returns-2 : (t : ℕ) → in-order-lts.Need-returns-2 (in-order-claims t) (in-order-at t) in-order.Post
 in-order-returns-2 t c =
     ordered-some _ _ _ _ (c .before .before .before .before .before .before .before .before .before .before .before .before .before .before .before .before .before .before .before .before .before .before .before .before .before .before .before .before .before .before .before .pre .1) (c .before .before .before .before .before .before .before .before .before .before .before .before .before .before .before .before .before .before .before .before .before .before .before .before .before .before .before .if1 .left) _ (c .before .before .before .before .before .before .before .before .before .before .before .before .before .before .before .before .before .before .before .before .before .before .before .before .before .link .ensures .0) (c .before .before .before .before .before .before .before .before .before .before .before .before .before .before .before .before .before .before .before .before .before .before .before .before .before .link .ensures .1) _ _ _ (c .before .before .before .before .before .before .before .before .before .before .before .before .before .before .before .before .before .before .before .before .before .before .in-order .ensures) _ (c .before .before .before .before .before .before .before .before .before .before .before .before .before .before .before .before .set-link .ensures) _ (c .before .before .before .before .before .before .before .before .before .before .before .before .link2 .ensures .0) (c .before .before .before .before .before .before .before .before .before .before .before .before .link2 .ensures .1) _ _ _ (c .before .before .before .before .before .before .before .before .before .in-order2 .ensures)

@@ -28,66 +28,52 @@ lay-below t = and 5 lay-kinds.ps (falls 5 lay-kinds.ps _<_ μ-lay t) lay.Pre
 abbrev lay-claims : ℕ → lay-lts.Claims
 lay-claims t = (set-link-reads.Asked, set-link-reads.Learnt, link-reads.Asked, link-reads.Learnt, lay-below t, lay.Post)
 
--- src/lib.rt:250:9
 lay-returns : (t : ℕ) → lay-lts.Need-returns (lay-claims t) (lay-at t) lay.Post
 lay-returns t c = laid-none _ _ _ _ _ _ _ _ (c .if1 .taken)
 
--- src/lib.rt:252:5
 lay-set-link-requires : (t : ℕ) → lay-lts.Need-set-link-requires (lay-claims t) (lay-at t) lay.Post
 lay-set-link-requires t c κs = (fits _ _ _ _ _ _ _ _ (c .before .before .before .before .before .before .before .pre .1) (c .before .if1 .left) .0, omega (arith, c .before .before .before .before .before .before .before .pre .1 .short))
 
--- src/lib.rt:253:5
 lay-set-link-requires-2 : (t : ℕ) → lay-lts.Need-set-link-requires-2 (lay-claims t) (lay-at t) lay.Post
 lay-set-link-requires-2 t c κs = (fits _ _ _ _ _ _ _ _ (c .before .before .before .before .before .before .before .before .before .before .before .pre .1) (c .before .before .before .before .before .if1 .left) .1, c .before .before .before .before .before .before .before .before .before .before .before .pre .1 .low)
 
--- src/lib.rt:254:9
 lay-link-requires : (t : ℕ) → lay-lts.Need-link-requires (lay-claims t) (lay-at t) lay.Post
 lay-link-requires t c κs = omega (arith, c .before .before .before .before .before .before .before .before .before .before .before .before .before .before .pre .1 .firsts)
 
--- src/lib.rt:255:37
 lay-add-lay : (t : ℕ) → lay-lts.Need-add-lay (lay-claims t) (lay-at t) lay.Post
 lay-add-lay t c = omega (arith, fits _ _ _ _ _ _ _ _ (c .before .before .before .before .before .before .before .before .before .before .before .before .before .before .before .pre .1) (c .before .before .before .before .before .before .before .before .before .if1 .left) .2)
 
--- src/lib.rt:255:9
 lay-lay-requires : (t : ℕ) → lay-lts.Need-lay-requires (lay-claims t) (lay-at t) lay.Post
 lay-lay-requires t c κs = (
   rw (← c .before .before .before .before .before .before .before .before .before .before .before .before .before .before .before .before .before .before .pre .0) (goes-down _ _ _ _ (c .before .before .before .before .before .before .before .before .before .before .before .before .before .before .before .before .before .before .pre .1 .finite) (c .before .before .before .before .before .before .before .before .before .before .before .before .if1 .left) (c .before .before .before .link .ensures .0) .1),
   kids-roomy _ _ _ _ _ _ _ _ (c .before .before .before .before .before .before .before .before .before .before .before .before .before .before .before .before .before .before .pre .1) (c .before .before .before .before .before .before .before .before .before .before .before .before .if1 .left) _ _ (c .before .before .before .before .before .before .before .before .before .before .set-link .ensures) (c .before .before .before .before .before .before .set-link2 .ensures) _ (c .before .before .before .link .ensures .0),
 )
 
--- src/lib.rt:256:24
 lay-sub-set-link : (t : ℕ) → lay-lts.Need-sub-set-link (lay-claims t) (lay-at t) lay.Post
 lay-sub-set-link t c = span-fits _ _ _ _ _ _ _ _ (c .before .before .before .before .before .before .before .before .before .before .before .before .before .before .before .before .before .before .before .before .before .before .before .before .before .before .pre .1) (c .before .before .before .before .before .before .before .before .before .before .before .before .before .before .before .before .before .before .before .before .if1 .left) _ _ (c .before .before .before .before .before .before .before .before .before .before .before .before .before .before .before .before .before .before .set-link .ensures) (c .before .before .before .before .before .before .before .before .before .before .before .before .before .before .set-link2 .ensures) _ (c .before .before .before .before .before .before .before .before .before .before .before .link .ensures .0) _ _ _ _ (c .before .before .before .before .before .before .before .lay .ensures) .1
 
--- src/lib.rt:256:5
 lay-set-link-requires-3 : (t : ℕ) → lay-lts.Need-set-link-requires-3 (lay-claims t) (lay-at t) lay.Post
 lay-set-link-requires-3 t c κs = let h = span-fits _ _ _ _ _ _ _ _ (c .before .before .before .before .before .before .before .before .before .before .before .before .before .before .before .before .before .before .before .before .before .before .before .before .before .before .pre .1) (c .before .before .before .before .before .before .before .before .before .before .before .before .before .before .before .before .before .before .before .before .if1 .left) _ _ (c .before .before .before .before .before .before .before .before .before .before .before .before .before .before .before .before .before .before .set-link .ensures) (c .before .before .before .before .before .before .before .before .before .before .before .before .before .before .set-link2 .ensures) _ (c .before .before .before .before .before .before .before .before .before .before .before .link .ensures .0) _ _ _ _ (c .before .before .before .before .before .before .before .lay .ensures) in
     (h .0, h .2)
 
--- src/lib.rt:257:9
 lay-link-requires-2 : (t : ℕ) → lay-lts.Need-link-requires-2 (lay-claims t) (lay-at t) lay.Post
 lay-link-requires-2 t c κs = search needs
 
--- src/lib.rt:258:5
 lay-lay-requires-2 : (t : ℕ) → lay-lts.Need-lay-requires-2 (lay-claims t) (lay-at t) lay.Post
 lay-lay-requires-2 t c κs = (
   rw (← c .before .before .before .before .before .before .before .before .before .before .before .before .before .before .before .before .before .before .before .before .before .before .before .before .before .before .before .before .before .before .before .before .before .pre .0) (goes-along _ _ _ _ (c .before .before .before .before .before .before .before .before .before .before .before .before .before .before .before .before .before .before .before .before .before .before .before .before .before .before .before .before .before .before .before .before .before .pre .1 .finite) (c .before .before .before .before .before .before .before .before .before .before .before .before .before .before .before .before .before .before .before .before .before .before .before .before .before .before .before .if1 .left) (c .before .before .before .link2 .ensures .0) .1),
   rest-roomy _ _ _ _ _ _ _ _ (c .before .before .before .before .before .before .before .before .before .before .before .before .before .before .before .before .before .before .before .before .before .before .before .before .before .before .before .before .before .before .before .before .before .pre .1) (c .before .before .before .before .before .before .before .before .before .before .before .before .before .before .before .before .before .before .before .before .before .before .before .before .before .before .before .if1 .left) _ _ (c .before .before .before .before .before .before .before .before .before .before .before .before .before .before .before .before .before .before .before .before .before .before .before .before .before .set-link .ensures) (c .before .before .before .before .before .before .before .before .before .before .before .before .before .before .before .before .before .before .before .before .before .set-link2 .ensures) _ (c .before .before .before .before .before .before .before .before .before .before .before .before .before .before .before .before .before .before .link .ensures .0) _ _ _ _ (c .before .before .before .before .before .before .before .before .before .before .before .before .before .before .lay .ensures) _ (c .before .before .before .before .before .before .set-link3 .ensures) _ (c .before .before .before .link2 .ensures .0),
 )
 
--- src/lib.rt:244:1
 lay-same-length : (t : ℕ) → lay-lts.Need-same-length (lay-claims t) (lay-at t) lay.Post
 lay-same-length t c = c .before .before .before .before .before .before .lay2 .ensures .rows ∙ c .before .before .before .before .before .before .before .before .before .before .before .before .before .before .before .before .before .before .before .before .before .lay .ensures .rows ∙ c .before .before .before .before .before .before .before .before .before .before .before .before .before .before .before .before .before .before .before .before .before .before .before .before .before .before .before .before .before .before .before .before .set-link .kept .0
 
--- src/lib.rt:244:1
 lay-same-length-2 : (t : ℕ) → lay-lts.Need-same-length-2 (lay-claims t) (lay-at t) lay.Post
 lay-same-length-2 t c = c .before .before .before .before .before .before .lay2 .ensures .ups ∙ c .before .before .before .before .before .before .before .before .before .before .before .before .before .before .before .before .before .before .before .before .before .lay .ensures .ups ∙ c .before .before .before .before .before .before .before .before .before .before .before .before .before .before .before .before .before .before .before .before .before .before .before .before .before .before .before .before .set-link2 .kept .0
 
--- src/lib.rt:244:1
 lay-same-length-3 : (t : ℕ) → lay-lts.Need-same-length-3 (lay-claims t) (lay-at t) lay.Post
 lay-same-length-3 t c = c .before .before .before .before .before .before .lay2 .ensures .spans ∙ c .before .before .before .before .before .before .before .before .before .before .before .before .before .set-link3 .kept .0 ∙ c .before .before .before .before .before .before .before .before .before .before .before .before .before .before .before .before .before .before .before .before .before .lay .ensures .spans
 
--- src/lib.rt:244:1
 lay-returns-2 : (t : ℕ) → lay-lts.Need-returns-2 (lay-claims t) (lay-at t) lay.Post
 lay-returns-2 t c = laid-some _ _ _ _ _ _ _ _ (c .before .before .before .before .before .before .before .before .before .before .before .before .before .before .before .before .before .before .before .before .before .before .before .before .before .before .before .before .before .before .before .before .before .before .before .before .before .before .before .before .pre .1) (c .before .before .before .before .before .before .before .before .before .before .before .before .before .before .before .before .before .before .before .before .before .before .before .before .before .before .before .before .before .before .before .before .before .before .if1 .left) _ _ (c .before .before .before .before .before .before .before .before .before .before .before .before .before .before .before .before .before .before .before .before .before .before .before .before .before .before .before .before .before .before .before .before .set-link .ensures) (c .before .before .before .before .before .before .before .before .before .before .before .before .before .before .before .before .before .before .before .before .before .before .before .before .before .before .before .before .set-link2 .ensures) _ (c .before .before .before .before .before .before .before .before .before .before .before .before .before .before .before .before .before .before .before .before .before .before .before .before .before .link .ensures .0) _ _ _ _ (c .before .before .before .before .before .before .before .before .before .before .before .before .before .before .before .before .before .before .before .before .before .lay .ensures) _ (c .before .before .before .before .before .before .before .before .before .before .before .before .before .set-link3 .ensures) _ (c .before .before .before .before .before .before .before .before .before .before .link2 .ensures .0)
     _ _ _ _ (c .before .before .before .before .before .before .lay2 .ensures)

@@ -18,55 +18,42 @@ Inv-loop row code mark count n out-code₀ out-mark₀ kids₀ i₀ out-code out
 abbrev μ-loop : tie.MeasureT-loop
 μ-loop row code mark count n out-code₀ out-mark₀ kids₀ i₀ out-code out-mark kids i = n - i
 
--- src/lib.rt:267:5
 loop-holds : tie.Need-loop-holds Inv-loop μ-loop
 loop-holds c = (omega arith, refl, refl, refl, λ x l. absurd (omega arith))
 
--- src/lib.rt:268:13
 link-requires : tie.Need-link-requires Inv-loop μ-loop
 link-requires c κs = omega (arith, c .before .before .before .before .before .before .before .before .before .pre .rows)
 
--- src/lib.rt:269:23
 mul-out-code : tie.Need-mul-out-code Inv-loop μ-loop
 mul-out-code c = search needs
 
--- src/lib.rt:269:23
 shared-slice-read-out-code : tie.Need-shared-slice-read-out-code Inv-loop μ-loop
 shared-slice-read-out-code c = omega (arith, c .before .before .before .before .before .before .before .before .before .before .before .pre .inside (c .before .before .before .loop .i) (c .before .before .loop-test .taken), c .before .link .ensures .0, c .before .before .before .before .before .before .before .before .before .before .before .pre .codes)
 
--- src/lib.rt:269:9
 mul-out-code-2 : tie.Need-mul-out-code-2 Inv-loop μ-loop
 mul-out-code-2 c = search needs
 
--- src/lib.rt:269:9
 slice-write-out-code : tie.Need-slice-write-out-code Inv-loop μ-loop
 slice-write-out-code c = omega (arith, c .before .before .before .before .before .before .before .before .before .before .before .pre .outCodes, c .before .before .before .loop .inv .1)
 
--- src/lib.rt:270:23
 shared-slice-read-out-mark : tie.Need-shared-slice-read-out-mark Inv-loop μ-loop
 shared-slice-read-out-mark c = omega (arith, c .before .before .before .before .before .before .before .before .before .before .before .before .pre .inside (c .before .before .before .before .loop .i) (c .before .before .before .loop-test .taken), c .before .before .link .ensures .0, c .before .before .before .before .before .before .before .before .before .before .before .before .pre .marks)
 
--- src/lib.rt:270:9
 slice-write-out-mark : tie.Need-slice-write-out-mark Inv-loop μ-loop
 slice-write-out-mark c = omega (arith, c .before .before .before .before .before .before .before .before .before .before .before .before .pre .outMarks, c .before .before .before .before .loop .inv .2)
 
--- src/lib.rt:271:13
 link-requires-2 : tie.Need-link-requires-2 Inv-loop μ-loop
 link-requires-2 c κs = omega (arith, c .before .before .before .before .before .before .before .before .before .before .before .before .pre .inside (c .before .before .before .before .loop .i) (c .before .before .before .loop-test .taken), c .before .before .link .ensures .0, c .before .before .before .before .before .before .before .before .before .before .before .before .pre .counts)
 
--- src/lib.rt:272:9
 set-link-requires : tie.Need-set-link-requires Inv-loop μ-loop
 set-link-requires c κs = (omega (arith, c .before .before .before .before .before .before .before .before .before .before .before .before .before .before .pre .outKids, c .before .before .before .before .before .before .loop .inv .3), c .before .link2 .ensures .1)
 
--- src/lib.rt:273:9
 add-i : tie.Need-add-i Inv-loop μ-loop
 add-i c = search needs
 
--- src/lib.rt:267:5
 loop-less : tie.Need-loop-less Inv-loop μ-loop
 loop-less c = search needs
 
--- src/lib.rt:267:5
 loop-again : tie.Need-loop-again Inv-loop μ-loop
 loop-again c = (
   omega arith,
@@ -78,19 +65,15 @@ loop-again c = (
       _ _ _ _ (c .before .before .before .before .before .before .before .link .ensures .0) refl refl (c .before .before .before .before .link2 .ensures .0) _ (c .before .before .set-link .ensures),
 )
 
--- src/lib.rt:262:1
 same-length : tie.Need-same-length Inv-loop μ-loop
 same-length c = search needs
 
--- src/lib.rt:262:1
 same-length-2 : tie.Need-same-length-2 Inv-loop μ-loop
 same-length-2 c = search needs
 
--- src/lib.rt:262:1
 same-length-3 : tie.Need-same-length-3 Inv-loop μ-loop
 same-length-3 c = search needs
 
--- src/lib.rt:262:1
 returns : tie.Need-returns Inv-loop μ-loop
 returns c = let z : c .before .loop .i ≡ c .before .before .before .before .before .before .before .before .before .args .n = omega arith in rw z at (c .before .loop .inv .4)
 

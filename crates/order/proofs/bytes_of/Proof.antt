@@ -5,51 +5,39 @@ use Rattle.order.proofs.bytes_of.Tie as tie
 use Rattle.order.proofs.bytes_of.Reads as reads
 use Rattle.order.proofs.bytes_of.Lts as lts
 
--- src/lib.rt:207:16
 mul-result : tie.Need-mul-result
 mul-result c = search needs
 
--- src/lib.rt:207:9
 returns : tie.Need-returns
 returns c = written-one _ (c .if1 .taken)
 
--- src/lib.rt:209:22
 add-a : tie.Need-add-a
 add-a c = search needs
 
--- src/lib.rt:209:13
 mul-a : tie.Need-mul-a
 mul-a c = search needs
 
--- src/lib.rt:211:20
 mul-result-2 : tie.Need-mul-result-2
 mul-result-2 c = search needs
 
--- src/lib.rt:211:16
 add-result : tie.Need-add-result
 add-result c = search needs
 
--- src/lib.rt:211:9
 returns-2 : tie.Need-returns-2
 returns-2 c = written-two _ (c .before .if1 .left) (c .if2 .taken)
 
--- src/lib.rt:213:16
 add-result-2 : tie.Need-add-result-2
 add-result-2 c = search needs
 
--- src/lib.rt:213:9
 mul-result-3 : tie.Need-mul-result-3
 mul-result-3 c = search needs
 
--- src/lib.rt:213:5
 add-result-3 : tie.Need-add-result-3
 add-result-3 c = search needs
 
--- src/lib.rt:213:5
 add-result-4 : tie.Need-add-result-4
 add-result-4 c = search needs
 
--- src/lib.rt:202:1
 returns-3 : tie.Need-returns-3
 returns-3 c = written-three _ (c .if2 .left) (c .before .before .pre)
 

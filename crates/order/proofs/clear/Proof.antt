@@ -17,27 +17,21 @@ Inv-loop n first₀ count₀ i₀ first count i = (i ≤ n + 1) × (length first
 abbrev μ-loop : tie.MeasureT-loop
 μ-loop n first₀ count₀ i₀ first count i = n + 1 - i
 
--- src/lib.rt:176:5
 loop-holds : tie.Need-loop-holds Inv-loop μ-loop
 loop-holds c = (omega arith, refl, refl, λ p l. absurd (omega arith))
 
--- src/lib.rt:177:9
 set-link-requires : tie.Need-set-link-requires Inv-loop μ-loop
 set-link-requires c κs = search needs
 
--- src/lib.rt:178:9
 set-link-requires-2 : tie.Need-set-link-requires-2 Inv-loop μ-loop
 set-link-requires-2 c κs = search needs
 
--- src/lib.rt:179:9
 add-i : tie.Need-add-i Inv-loop μ-loop
 add-i c = search needs
 
--- src/lib.rt:176:5
 loop-less : tie.Need-loop-less Inv-loop μ-loop
 loop-less c = search needs
 
--- src/lib.rt:176:5
 loop-again : tie.Need-loop-again Inv-loop μ-loop
 loop-again c = (
   omega arith,
@@ -46,15 +40,12 @@ loop-again c = (
   cleared-more (c .before .before .before .before .before .before .before .before .before .loop .i) (c .before .before .before .before .before .before .before .before .before .loop .first) (c .before .before .before .before .before .before .before .before .before .loop .count) (c .before .before .before .before .before .before .before .before .before .loop .inv .3) (omega (arith, c .before .before .before .before .before .before .before .before .before .loop .inv .1, c .before .before .before .before .before .before .before .before .before .before .before .before .pre .0)) (omega (arith, c .before .before .before .before .before .before .before .before .before .loop .inv .2, c .before .before .before .before .before .before .before .before .before .before .before .before .pre .1)) _ _ (c .before .before .before .before .before .before .set-link .ensures) (c .before .before .set-link2 .ensures),
 )
 
--- src/lib.rt:171:1
 same-length : tie.Need-same-length Inv-loop μ-loop
 same-length c = search needs
 
--- src/lib.rt:171:1
 same-length-2 : tie.Need-same-length-2 Inv-loop μ-loop
 same-length-2 c = search needs
 
--- src/lib.rt:171:1
 returns : tie.Need-returns Inv-loop μ-loop
 returns c = let z : c .before .loop .i ≡ c .before .before .before .before .args .n + 1 = omega arith in rw z at (c .before .loop .inv .3)
 

@@ -19,51 +19,39 @@ Inv-loop parent n first₀ next₀ count₀ i₀ first next count i = (i ≤ n) 
 abbrev μ-loop : tie.MeasureT-loop
 μ-loop parent n first₀ next₀ count₀ i₀ first next count i = i
 
--- src/lib.rt:190:5
 loop-holds : tie.Need-loop-holds Inv-loop μ-loop
 loop-holds c = (omega arith, refl, refl, refl, c .before .before .before .before .pre .0, gathered-none _ _ _ _ _ (c .before .before .before .before .pre .0 .short) (c .before .before .before .before .pre .1))
 
--- src/lib.rt:191:9
 sub-i : tie.Need-sub-i Inv-loop μ-loop
 sub-i c = search needs
 
--- src/lib.rt:192:22
 link-requires : tie.Need-link-requires Inv-loop μ-loop
 link-requires c κs = omega (arith, c .before .loop .inv .4 .parents)
 
--- src/lib.rt:192:13
 slot-requires : tie.Need-slot-requires Inv-loop μ-loop
 slot-requires c κs = search needs
 
--- src/lib.rt:193:13
 link-requires-2 : tie.Need-link-requires-2 Inv-loop μ-loop
 link-requires-2 c κs = slot-fits _ _ _ _ _ _ (c .before .before .before .before .loop .inv .4) (c .before .before .before .loop-test .taken) (c .before .before .before .before .loop .inv .0) (c .before .before .before .before .loop .inv .5) _ (c .before .slot .ensures ∙ ap (slotOf (c .before .before .before .before .before .before .before .before .before .args .n)) (c .before .before .link .ensures .0)) .0
 
--- src/lib.rt:194:9
 set-link-requires : tie.Need-set-link-requires Inv-loop μ-loop
 set-link-requires c κs = (omega (arith, c .before .before .before .before .before .before .loop .inv .4 .nexts), c .before .link2 .ensures .1)
 
--- src/lib.rt:195:9
 set-link-requires-2 : tie.Need-set-link-requires-2 Inv-loop μ-loop
 set-link-requires-2 c κs = (slot-fits _ _ _ _ _ _ (c .before .before .before .before .before .before .before .before .before .before .loop .inv .4) (c .before .before .before .before .before .before .before .before .before .loop-test .taken) (c .before .before .before .before .before .before .before .before .before .before .loop .inv .0) (c .before .before .before .before .before .before .before .before .before .before .loop .inv .5) _ (c .before .before .before .before .before .before .before .slot .ensures ∙ ap (slotOf (c .before .before .before .before .before .before .before .before .before .before .before .before .before .before .before .args .n)) (c .before .before .before .before .before .before .before .before .link .ensures .0)) .0, omega (arith, c .before .before .before .before .before .before .before .before .before .before .loop .inv .4 .few))
 
--- src/lib.rt:196:13
 link-requires-3 : tie.Need-link-requires-3 Inv-loop μ-loop
 link-requires-3 c κs = slot-fits _ _ _ _ _ _ (c .before .before .before .before .before .before .before .before .before .before .before .before .before .before .loop .inv .4) (c .before .before .before .before .before .before .before .before .before .before .before .before .before .loop-test .taken) (c .before .before .before .before .before .before .before .before .before .before .before .before .before .before .loop .inv .0) (c .before .before .before .before .before .before .before .before .before .before .before .before .before .before .loop .inv .5) _ (c .before .before .before .before .before .before .before .before .before .before .before .slot .ensures ∙ ap (slotOf (c .before .before .before .before .before .before .before .before .before .before .before .before .before .before .before .before .before .before .before .args .n)) (c .before .before .before .before .before .before .before .before .before .before .before .before .link .ensures .0)) .1
 
--- src/lib.rt:197:28
 add-set-link : tie.Need-add-set-link Inv-loop μ-loop
 add-set-link c = omega (arith, c .before .link3 .ensures .1)
 
--- src/lib.rt:197:9
 set-link-requires-3 : tie.Need-set-link-requires-3 Inv-loop μ-loop
 set-link-requires-3 c κs = (slot-fits _ _ _ _ _ _ (c .before .before .before .before .before .before .before .before .before .before .before .before .before .before .before .before .loop .inv .4) (c .before .before .before .before .before .before .before .before .before .before .before .before .before .before .before .loop-test .taken) (c .before .before .before .before .before .before .before .before .before .before .before .before .before .before .before .before .loop .inv .0) (c .before .before .before .before .before .before .before .before .before .before .before .before .before .before .before .before .loop .inv .5) _ (c .before .before .before .before .before .before .before .before .before .before .before .before .before .slot .ensures ∙ ap (slotOf (c .before .before .before .before .before .before .before .before .before .before .before .before .before .before .before .before .before .before .before .before .before .args .n)) (c .before .before .before .before .before .before .before .before .before .before .before .before .before .before .link .ensures .0)) .1, count-fits _ _ _ _ _ _ (c .before .before .before .before .before .before .before .before .before .before .before .before .before .before .before .before .loop .inv .4) (c .before .before .before .before .before .before .before .before .before .before .before .before .before .before .before .loop-test .taken) (c .before .before .before .before .before .before .before .before .before .before .before .before .before .before .before .before .loop .inv .0) (c .before .before .before .before .before .before .before .before .before .before .before .before .before .before .before .before .loop .inv .5) _ (c .before .before .before .before .before .before .before .before .before .before .before .before .before .slot .ensures ∙ ap (slotOf (c .before .before .before .before .before .before .before .before .before .before .before .before .before .before .before .before .before .before .before .before .before .args .n)) (c .before .before .before .before .before .before .before .before .before .before .before .before .before .before .link .ensures .0)) _ (c .before .link3 .ensures .0))
 
--- src/lib.rt:190:5
 loop-less : tie.Need-loop-less Inv-loop μ-loop
 loop-less c = search needs
 
--- src/lib.rt:190:5
 loop-again : tie.Need-loop-again Inv-loop μ-loop
 loop-again c = (
   omega arith,
@@ -74,19 +62,15 @@ loop-again c = (
   gathered-turn _ _ _ _ _ _ (c .before .before .before .before .before .before .before .before .before .before .before .before .before .before .before .before .before .before .before .loop .inv .4) (c .before .before .before .before .before .before .before .before .before .before .before .before .before .before .before .before .before .before .loop-test .taken) (c .before .before .before .before .before .before .before .before .before .before .before .before .before .before .before .before .before .before .before .loop .inv .0) (c .before .before .before .before .before .before .before .before .before .before .before .before .before .before .before .before .before .before .before .loop .inv .5) _ (c .before .before .before .before .before .before .before .before .before .before .before .before .before .before .before .before .slot .ensures ∙ ap (slotOf (c .before .before .before .before .before .before .before .before .before .before .before .before .before .before .before .before .before .before .before .before .before .before .before .before .args .n)) (c .before .before .before .before .before .before .before .before .before .before .before .before .before .before .before .before .before .link .ensures .0)) _ (c .before .before .before .before .before .before .before .before .before .before .before .before .before .before .link2 .ensures .0) _ (c .before .before .before .before .link3 .ensures .0) _ _ _ (c .before .before .before .before .before .before .before .before .before .before .before .before .set-link .ensures) (c .before .before .before .before .before .before .before .before .set-link2 .ensures) (c .before .before .set-link3 .ensures),
 )
 
--- src/lib.rt:184:1
 same-length : tie.Need-same-length Inv-loop μ-loop
 same-length c = search needs
 
--- src/lib.rt:184:1
 same-length-2 : tie.Need-same-length-2 Inv-loop μ-loop
 same-length-2 c = search needs
 
--- src/lib.rt:184:1
 same-length-3 : tie.Need-same-length-3 Inv-loop μ-loop
 same-length-3 c = search needs
 
--- src/lib.rt:184:1
 returns : tie.Need-returns Inv-loop μ-loop
 returns c = let z : c .before .loop .i ≡ 0 = omega arith in rw z at (c .before .loop .inv .5)
 

@@ -20,75 +20,57 @@ Inv-loop code mark count n key₀ i₀ key i = (i ≤ n) × (length key ≡ leng
 abbrev μ-loop : tie.MeasureT-loop
 μ-loop code mark count n key₀ i₀ key i = n - i
 
--- src/lib.rt:234:5
 loop-holds : tie.Need-loop-holds Inv-loop μ-loop
 loop-holds c = (omega arith, refl, λ x l. absurd (omega arith))
 
--- src/lib.rt:235:31
 mul-wide : tie.Need-mul-wide Inv-loop μ-loop
 mul-wide c = search needs
 
--- src/lib.rt:235:31
 shared-slice-read-wide : tie.Need-shared-slice-read-wide Inv-loop μ-loop
 shared-slice-read-wide c = omega (arith, c .before .before .before .before .before .before .before .pre .codes)
 
--- src/lib.rt:235:26
 wide-requires : tie.Need-wide-requires Inv-loop μ-loop
 wide-requires c κs = search needs
 
--- src/lib.rt:235:13
 bytes-of-requires : tie.Need-bytes-of-requires Inv-loop μ-loop
 bytes-of-requires c κs = let h = c .before .before .before .before .before .before .before .before .pre .labels (c .before .before .before .loop .i) (c .before .before .loop-test .taken) in rw (c .wide .ensures) (omega arith)
 
--- src/lib.rt:236:23
 shared-slice-read-wide8 : tie.Need-shared-slice-read-wide8 Inv-loop μ-loop
 shared-slice-read-wide8 c = omega (arith, c .before .before .before .before .before .before .before .before .before .before .pre .marks)
 
--- src/lib.rt:236:13
 wide8-requires : tie.Need-wide8-requires Inv-loop μ-loop
 wide8-requires c κs = search needs
 
--- src/lib.rt:237:26
 link-requires : tie.Need-link-requires Inv-loop μ-loop
 link-requires c κs = omega (arith, c .before .before .before .before .before .before .before .before .before .before .before .pre .counts)
 
--- src/lib.rt:237:13
 bytes-of-requires-2 : tie.Need-bytes-of-requires-2 Inv-loop μ-loop
 bytes-of-requires-2 c κs = search needs
 
--- src/lib.rt:238:19
 mul-key : tie.Need-mul-key Inv-loop μ-loop
 mul-key c = search needs
 
--- src/lib.rt:238:19
 add-key : tie.Need-add-key Inv-loop μ-loop
 add-key c = search needs
 
--- src/lib.rt:238:18
 mul-key-2 : tie.Need-mul-key-2 Inv-loop μ-loop
 mul-key-2 c = search needs
 
--- src/lib.rt:238:18
 add-key-2 : tie.Need-add-key-2 Inv-loop μ-loop
 add-key-2 c = search needs
 
--- src/lib.rt:238:9
 mul-key-3 : tie.Need-mul-key-3 Inv-loop μ-loop
 mul-key-3 c = search needs
 
--- src/lib.rt:238:9
 slice-write-key : tie.Need-slice-write-key Inv-loop μ-loop
 slice-write-key c = omega (arith, c .before .before .before .before .before .before .before .before .before .before .before .before .before .pre .keys, c .before .before .before .before .before .before .before .before .loop .inv .1)
 
--- src/lib.rt:239:9
 add-i : tie.Need-add-i Inv-loop μ-loop
 add-i c = search needs
 
--- src/lib.rt:234:5
 loop-less : tie.Need-loop-less Inv-loop μ-loop
 loop-less c = search needs
 
--- src/lib.rt:234:5
 loop-again : tie.Need-loop-again Inv-loop μ-loop
 loop-again c = (
   omega arith,
@@ -97,11 +79,9 @@ loop-again c = (
       _ _ _ (c .before .before .before .before .bytes-of .ensures .0 ∙ ap written (c .before .before .before .before .before .wide .ensures)) (c .before .before .wide8 .ensures .0) (c .bytes-of2 .ensures .0 ∙ ap written (c .before .link .ensures .0)),
 )
 
--- src/lib.rt:229:1
 same-length : tie.Need-same-length Inv-loop μ-loop
 same-length c = search needs
 
--- src/lib.rt:229:1
 returns : tie.Need-returns Inv-loop μ-loop
 returns c = let z : c .before .loop .i ≡ c .before .before .before .before .before .before .args .n = omega arith in rw z at (c .before .loop .inv .2)
 

@@ -8,39 +8,30 @@ use Rattle.order.proofs.link.Reads as link-reads
 use Rattle.order.proofs.set_link.Reads as set-link-reads
 use Rattle.order.proofs.spot.Reads as spot-reads
 
--- src/lib.rt:120:9
 spot-requires : tie.Need-spot-requires
 spot-requires c κs = search needs
 
--- src/lib.rt:122:9
 set-link-requires : tie.Need-set-link-requires
 set-link-requires c κs = search needs
 
--- src/lib.rt:123:9
 same-length : tie.Need-same-length
 same-length c = search needs
 
--- src/lib.rt:123:9
 returns : tie.Need-returns
 returns c = placed-front _ _ _ _ _ (c .before .before .before .before .before .before .before .before .before .before .pre) _ (c .before .before .before .before .before .spot .ensures) (c .before .before .before .before .if1 .taken) _ (c .before .before .set-link .ensures)
 
--- src/lib.rt:125:9
 link-requires : tie.Need-link-requires
 link-requires c κs = search needs
 
--- src/lib.rt:126:5
 set-link-requires-2 : tie.Need-set-link-requires-2
 set-link-requires-2 c κs = search needs
 
--- src/lib.rt:127:5
 set-link-requires-3 : tie.Need-set-link-requires-3
 set-link-requires-3 c κs = search needs
 
--- src/lib.rt:115:1
 same-length-2 : tie.Need-same-length-2
 same-length-2 c = search needs
 
--- src/lib.rt:115:1
 returns-2 : tie.Need-returns-2
 returns-2 c = placed-after _ _ _ _ _ (c .before .before .before .before .before .before .before .before .before .before .before .before .before .before .before .before .pre) _ (c .before .before .before .before .before .before .before .before .before .before .before .spot .ensures) (c .before .before .before .before .before .before .before .before .before .before .if1 .left) _ (c .before .before .before .before .before .before .before .before .link .ensures .0) _ _ (c .before .before .before .before .before .before .set-link2 .ensures) (c .before .before .set-link3 .ensures)
 

@@ -4,11 +4,9 @@ use Rattle.order.proofs.slot.Tie as tie
 use Rattle.order.proofs.slot.Reads as reads
 use Rattle.order.proofs.slot.Lts as lts
 
--- src/lib.rt:165:9
 returns : tie.Need-returns
 returns c = slot-row _ _ (c .if1 .taken)
 
--- src/lib.rt:161:1
 returns-2 : tie.Need-returns-2
 returns-2 c = slot-top _ _ (c .if1 .left)
 

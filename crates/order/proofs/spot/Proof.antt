@@ -17,36 +17,29 @@ Inv-loop first next key c q n p₀ at₀ p at = Finite first next at × (spotOf 
 abbrev μ-loop : tie.MeasureT-loop
 μ-loop first next key c q n p₀ at₀ p at = size (forestAt first next at)
 
--- src/lib.rt:104:5
 loop-holds : tie.Need-loop-holds Inv-loop μ-loop
 loop-holds c = (c .before .before .before .pre .3, refl)
 
--- src/lib.rt:105:12
 goes-first-requires : tie.Need-goes-first-requires Inv-loop μ-loop
 goes-first-requires c κs =
     let s = c .before .before .before .before .before in
     (s .pre .0, s .pre .1, c .loop-test .taken, s .pre .2, opens _ _ _ (c .before .loop .inv .0) (c .loop-test .taken) .down)
 
--- src/lib.rt:106:13
 returns : tie.Need-returns Inv-loop μ-loop
 returns c = sym (c .before .before .before .loop .inv .1 ∙ spot-here _ _ _ _ _ _ (c .before .before .before .loop .inv .0) (c .before .before .loop-test .taken) _ (c .before .goes-first .ensures) (c .if1 .taken))
 
--- src/lib.rt:109:9
 link-requires : tie.Need-link-requires Inv-loop μ-loop
 link-requires c κs = search needs
 
--- src/lib.rt:104:5
 loop-less : tie.Need-loop-less Inv-loop μ-loop
 loop-less c = goes-along _ _ _ _ (c .before .before .before .before .loop .inv .0) (c .before .before .before .loop-test .taken) (c .link .ensures .0) .1
 
--- src/lib.rt:104:5
 loop-again : tie.Need-loop-again Inv-loop μ-loop
 loop-again c = (
   goes-along _ _ _ _ (c .before .before .before .before .loop .inv .0) (c .before .before .before .loop-test .taken) (c .link .ensures .0) .0,
   c .before .before .before .before .loop .inv .1 ∙ spot-on _ _ _ _ _ _ (c .before .before .before .before .loop .inv .0) (c .before .before .before .loop-test .taken) _ (c .before .before .goes-first .ensures) (c .before .if1 .left) _ (c .link .ensures .0),
 )
 
--- src/lib.rt:97:1
 returns-2 : tie.Need-returns-2 Inv-loop μ-loop
 returns-2 c = sym (c .before .loop .inv .1 ∙ spot-end _ _ _ _ _ _ (c .loop-test .left))
 
