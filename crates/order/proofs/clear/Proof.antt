@@ -33,12 +33,16 @@ loop-less : tie.Need-loop-less Inv-loop μ-loop
 loop-less c = search needs
 
 loop-again : tie.Need-loop-again Inv-loop μ-loop
-loop-again c = (
-  omega arith,
-  c .before .before .before .before .before .before .set-link .kept .0 ∙ c .before .before .before .before .before .before .before .before .before .loop .inv .1,
-  c .before .before .set-link2 .kept .0 ∙ c .before .before .before .before .before .before .before .before .before .loop .inv .2,
-  cleared-more (c .before .before .before .before .before .before .before .before .before .loop .i) (c .before .before .before .before .before .before .before .before .before .loop .first) (c .before .before .before .before .before .before .before .before .before .loop .count) (c .before .before .before .before .before .before .before .before .before .loop .inv .3) (omega (arith, c .before .before .before .before .before .before .before .before .before .loop .inv .1, c .before .before .before .before .before .before .before .before .before .before .before .before .pre .0)) (omega (arith, c .before .before .before .before .before .before .before .before .before .loop .inv .2, c .before .before .before .before .before .before .before .before .before .before .before .before .pre .1)) _ _ (c .before .before .before .before .before .before .set-link .ensures) (c .before .before .set-link2 .ensures),
-)
+loop-again c =
+    let c1 = c .before .before in
+    let c2 = c1 .before .before .before .before in
+    let c3 = c2 .before .before .before in
+    let c4 = c3 .before .before .before in (
+      omega arith,
+      c2 .set-link .kept .0 ∙ c3 .loop .inv .1,
+      c1 .set-link2 .kept .0 ∙ c3 .loop .inv .2,
+      cleared-more (c3 .loop .i) (c3 .loop .first) (c3 .loop .count) (c3 .loop .inv .3) (omega (arith, c3 .loop .inv .1, c4 .pre .0)) (omega (arith, c3 .loop .inv .2, c4 .pre .1)) _ _ (c2 .set-link .ensures) (c1 .set-link2 .ensures),
+    )
 
 same-length : tie.Need-same-length Inv-loop μ-loop
 same-length c = search needs

@@ -41,13 +41,37 @@ enum-told-3 : tie.Need-enum-told-3
 enum-told-3 c = search needs
 
 returns-3 : tie.Need-returns-3
-returns-3 c = ap upTo (sym (c .enum-told .given .1)) ∙ first-kids _ _ _ _ _ _ _ (c .before .before .before .before .before .before .before .before .key-at .ensures) (c .before .before .before .before .before .before .before .key-at2 .ensures) (c .before .before .before .before .before .before .if1 .left) (c .before .before .before .before .before .if2 .left) _ _ (c .before .before .before .before .link .ensures .0) (c .before .before .before .link2 .ensures .0) _ (c .before .before .compare .ensures)
+returns-3 c =
+    let c1 = c .before .before in
+    let c2 = c1 .before in
+    let c3 = c2 .before in
+    let c4 = c3 .before in
+    let c5 = c4 .before in
+    let c6 = c5 .before in
+    let c7 = c6 .before in
+    ap upTo (sym (c .enum-told .given .1)) ∙ first-kids _ _ _ _ _ _ _ (c7 .key-at .ensures) (c6 .key-at2 .ensures) (c5 .if1 .left) (c4 .if2 .left) _ _ (c3 .link .ensures .0) (c2 .link2 .ensures .0) _ (c1 .compare .ensures)
 
 returns-4 : tie.Need-returns-4
-returns-4 c = ap upTo (sym (c .enum-told2 .given .1)) ∙ first-kids _ _ _ _ _ _ _ (c .before .before .before .before .before .before .before .before .key-at .ensures) (c .before .before .before .before .before .before .before .key-at2 .ensures) (c .before .before .before .before .before .before .if1 .left) (c .before .before .before .before .before .if2 .left) _ _ (c .before .before .before .before .link .ensures .0) (c .before .before .before .link2 .ensures .0) _ (c .before .before .compare .ensures)
+returns-4 c =
+    let c1 = c .before .before in
+    let c2 = c1 .before in
+    let c3 = c2 .before in
+    let c4 = c3 .before in
+    let c5 = c4 .before in
+    let c6 = c5 .before in
+    let c7 = c6 .before in
+    ap upTo (sym (c .enum-told2 .given .1)) ∙ first-kids _ _ _ _ _ _ _ (c7 .key-at .ensures) (c6 .key-at2 .ensures) (c5 .if1 .left) (c4 .if2 .left) _ _ (c3 .link .ensures .0) (c2 .link2 .ensures .0) _ (c1 .compare .ensures)
 
 returns-5 : tie.Need-returns-5
-returns-5 c = ap upTo (sym (c .enum-told3 .given .1)) ∙ first-kids _ _ _ _ _ _ _ (c .before .before .before .before .before .before .before .before .key-at .ensures) (c .before .before .before .before .before .before .before .key-at2 .ensures) (c .before .before .before .before .before .before .if1 .left) (c .before .before .before .before .before .if2 .left) _ _ (c .before .before .before .before .link .ensures .0) (c .before .before .before .link2 .ensures .0) _ (c .before .before .compare .ensures)
+returns-5 c =
+    let c1 = c .before .before in
+    let c2 = c1 .before in
+    let c3 = c2 .before in
+    let c4 = c3 .before in
+    let c5 = c4 .before in
+    let c6 = c5 .before in
+    let c7 = c6 .before in
+    ap upTo (sym (c .enum-told3 .given .1)) ∙ first-kids _ _ _ _ _ _ _ (c7 .key-at .ensures) (c6 .key-at2 .ensures) (c5 .if1 .left) (c4 .if2 .left) _ _ (c3 .link .ensures .0) (c2 .link2 .ensures .0) _ (c1 .compare .ensures)
 
 pub goes-first-spec : {M : Type 1} → statement M
 goes-first-spec =

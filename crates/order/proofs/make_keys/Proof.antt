@@ -33,7 +33,11 @@ wide-requires : tie.Need-wide-requires Inv-loop μ-loop
 wide-requires c κs = search needs
 
 bytes-of-requires : tie.Need-bytes-of-requires Inv-loop μ-loop
-bytes-of-requires c κs = let h = c .before .before .before .before .before .before .before .before .pre .labels (c .before .before .before .loop .i) (c .before .before .loop-test .taken) in rw (c .wide .ensures) (omega arith)
+bytes-of-requires c κs =
+    let c1 = c .before .before in
+    let c2 = c1 .before in
+    let c3 = c2 .before .before .before .before .before in
+    let h = c3 .pre .labels (c2 .loop .i) (c1 .loop-test .taken) in rw (c .wide .ensures) (omega arith)
 
 shared-slice-read-wide8 : tie.Need-shared-slice-read-wide8 Inv-loop μ-loop
 shared-slice-read-wide8 c = omega (arith, c .before .before .before .before .before .before .before .before .before .before .pre .marks)
@@ -42,7 +46,9 @@ wide8-requires : tie.Need-wide8-requires Inv-loop μ-loop
 wide8-requires c κs = search needs
 
 link-requires : tie.Need-link-requires Inv-loop μ-loop
-link-requires c κs = omega (arith, c .before .before .before .before .before .before .before .before .before .before .before .pre .counts)
+link-requires c κs =
+    let c1 = c .before .before .before .before .before .before .before .before .before .before .before in
+    omega (arith, c1 .pre .counts)
 
 bytes-of-requires-2 : tie.Need-bytes-of-requires-2 Inv-loop μ-loop
 bytes-of-requires-2 c κs = search needs
@@ -63,7 +69,10 @@ mul-key-3 : tie.Need-mul-key-3 Inv-loop μ-loop
 mul-key-3 c = search needs
 
 slice-write-key : tie.Need-slice-write-key Inv-loop μ-loop
-slice-write-key c = omega (arith, c .before .before .before .before .before .before .before .before .before .before .before .before .before .pre .keys, c .before .before .before .before .before .before .before .before .loop .inv .1)
+slice-write-key c =
+    let c1 = c .before .before .before .before .before .before .before .before in
+    let c2 = c1 .before .before .before .before .before in
+    omega (arith, c2 .pre .keys, c1 .loop .inv .1)
 
 add-i : tie.Need-add-i Inv-loop μ-loop
 add-i c = search needs
@@ -72,12 +81,18 @@ loop-less : tie.Need-loop-less Inv-loop μ-loop
 loop-less c = search needs
 
 loop-again : tie.Need-loop-again Inv-loop μ-loop
-loop-again c = (
-  omega arith,
-  length-set (c .before .before .before .before .before .before .before .before .loop .key) (c .before .before .before .before .before .before .before .before .loop .i) _ ∙ c .before .before .before .before .before .before .before .before .loop .inv .1,
-  keys-more (c .before .before .before .before .before .before .before .before .before .before .before .before .before .args .code .now) (c .before .before .before .before .before .before .before .before .before .before .before .before .before .args .mark .now) (c .before .before .before .before .before .before .before .before .before .before .before .before .before .args .count .now) (c .before .before .before .before .before .before .before .before .loop .key) (c .before .before .before .before .before .before .before .before .loop .i) (omega (arith, c .before .before .before .before .before .before .before .before .loop .inv .1, c .before .before .before .before .before .before .before .before .before .before .before .before .before .pre .keys)) (c .before .before .before .before .before .before .before .before .loop .inv .2)
-      _ _ _ (c .before .before .before .before .bytes-of .ensures .0 ∙ ap written (c .before .before .before .before .before .wide .ensures)) (c .before .before .wide8 .ensures .0) (c .bytes-of2 .ensures .0 ∙ ap written (c .before .link .ensures .0)),
-)
+loop-again c =
+    let c1 = c .before in
+    let c2 = c1 .before in
+    let c3 = c2 .before .before in
+    let c4 = c3 .before in
+    let c5 = c4 .before .before .before in
+    let c6 = c5 .before .before .before .before .before in (
+      omega arith,
+      length-set (c5 .loop .key) (c5 .loop .i) _ ∙ c5 .loop .inv .1,
+      keys-more (c6 .args .code .now) (c6 .args .mark .now) (c6 .args .count .now) (c5 .loop .key) (c5 .loop .i) (omega (arith, c5 .loop .inv .1, c6 .pre .keys)) (c5 .loop .inv .2)
+          _ _ _ (c3 .bytes-of .ensures .0 ∙ ap written (c4 .wide .ensures)) (c2 .wide8 .ensures .0) (c .bytes-of2 .ensures .0 ∙ ap written (c1 .link .ensures .0)),
+    )
 
 same-length : tie.Need-same-length Inv-loop μ-loop
 same-length c = search needs

@@ -18,7 +18,12 @@ same-length : tie.Need-same-length
 same-length c = search needs
 
 returns : tie.Need-returns
-returns c = placed-front _ _ _ _ _ (c .before .before .before .before .before .before .before .before .before .before .pre) _ (c .before .before .before .before .before .spot .ensures) (c .before .before .before .before .if1 .taken) _ (c .before .before .set-link .ensures)
+returns c =
+    let c1 = c .before .before in
+    let c2 = c1 .before .before in
+    let c3 = c2 .before in
+    let c4 = c3 .before .before .before .before .before in
+    placed-front _ _ _ _ _ (c4 .pre) _ (c3 .spot .ensures) (c2 .if1 .taken) _ (c1 .set-link .ensures)
 
 link-requires : tie.Need-link-requires
 link-requires c κs = search needs
@@ -33,7 +38,14 @@ same-length-2 : tie.Need-same-length-2
 same-length-2 c = search needs
 
 returns-2 : tie.Need-returns-2
-returns-2 c = placed-after _ _ _ _ _ (c .before .before .before .before .before .before .before .before .before .before .before .before .before .before .before .before .pre) _ (c .before .before .before .before .before .before .before .before .before .before .before .spot .ensures) (c .before .before .before .before .before .before .before .before .before .before .if1 .left) _ (c .before .before .before .before .before .before .before .before .link .ensures .0) _ _ (c .before .before .before .before .before .before .set-link2 .ensures) (c .before .before .set-link3 .ensures)
+returns-2 c =
+    let c1 = c .before .before in
+    let c2 = c1 .before .before .before .before in
+    let c3 = c2 .before .before in
+    let c4 = c3 .before .before in
+    let c5 = c4 .before in
+    let c6 = c5 .before .before .before .before .before in
+    placed-after _ _ _ _ _ (c6 .pre) _ (c5 .spot .ensures) (c4 .if1 .left) _ (c3 .link .ensures .0) _ _ (c2 .set-link2 .ensures) (c1 .set-link3 .ensures)
 
 pub place-spec : {M : Type 1} → statement M
 place-spec =

@@ -35,10 +35,14 @@ loop-less : tie.Need-loop-less Inv-loop μ-loop
 loop-less c = goes-along _ _ _ _ (c .before .before .before .before .loop .inv .0) (c .before .before .before .loop-test .taken) (c .link .ensures .0) .1
 
 loop-again : tie.Need-loop-again Inv-loop μ-loop
-loop-again c = (
-  goes-along _ _ _ _ (c .before .before .before .before .loop .inv .0) (c .before .before .before .loop-test .taken) (c .link .ensures .0) .0,
-  c .before .before .before .before .loop .inv .1 ∙ spot-on _ _ _ _ _ _ (c .before .before .before .before .loop .inv .0) (c .before .before .before .loop-test .taken) _ (c .before .before .goes-first .ensures) (c .before .if1 .left) _ (c .link .ensures .0),
-)
+loop-again c =
+    let c1 = c .before in
+    let c2 = c1 .before in
+    let c3 = c2 .before in
+    let c4 = c3 .before in (
+      goes-along _ _ _ _ (c4 .loop .inv .0) (c3 .loop-test .taken) (c .link .ensures .0) .0,
+      c4 .loop .inv .1 ∙ spot-on _ _ _ _ _ _ (c4 .loop .inv .0) (c3 .loop-test .taken) _ (c2 .goes-first .ensures) (c1 .if1 .left) _ (c .link .ensures .0),
+    )
 
 returns-2 : tie.Need-returns-2 Inv-loop μ-loop
 returns-2 c = sym (c .before .loop .inv .1 ∙ spot-end _ _ _ _ _ _ (c .loop-test .left))
