@@ -9,7 +9,7 @@ use lib.ListN.{length, getD}
 use Rattle.meaning.specs.Tree.{size}
 use Rattle.meaning.specs.Image.{ordered}
 use Rattle.rows.specs.Rows.{treeRows, noRow, Rows}
-use Rattle.order.specs.Table.{tableShape, tableTree, Table}
+use Rattle.order.specs.Table.{tableShape, tableTree, TreeTable}
 use Rattle.order.specs.Gathering.{Known, Cleared, Slots, Gathered}
 use Rattle.order.specs.Keys.{Keyable, Keys}
 use Rattle.order.specs.Links.{forestAt, Finite, Apart, orderedBy, Loose, Ordered}
@@ -19,8 +19,8 @@ use Rattle.order.proofs.Gathering.{reads-grown}
 use Rattle.order.proofs.TableOrder.{lev, levels, size-sorted, row-lt, tree-rows, are-rows}
 
 module _ (parent code mark : List ℕ) (n : ℕ) (first next count key row code′ mark′ kids span up : List ℕ)
-    (P : Table parent code mark n × Room n first next count key row code′ mark′ kids span up) where
-  abbrev T : Table parent code mark n
+    (P : TreeTable parent code mark n × Room n first next count key row code′ mark′ kids span up) where
+  abbrev T : TreeTable parent code mark n
   T = P .0
 
   abbrev R : Room n first next count key row code′ mark′ kids span up

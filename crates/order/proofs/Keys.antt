@@ -1,5 +1,5 @@
--- "The order is by label code, mark and number of children": the key of a row is one number, and keys compare as the first three numbers of
--- two records compare byte by byte.
+-- "the children's records in ascending byte order": the key of a row is one number, and keys compare as the first three numbers of two records
+-- compare byte by byte.
 use mathlib.Core.Path.{_≡_, refl, sym, ap, _∙_}
 use mathlib.Core.List.{List, [], _∷_, _++_}
 use Prim.Native.Nat.{ℕ, zero, suc, _+_, _-_, _*_, _/_, _%_, _<_, _≤_}

@@ -1,4 +1,4 @@
--- The tree of a table of parents is the tree of the tree query whose rows the table has, and a tree query's table fulfils what `Table` asks.
+-- The tree of a table of parents is the tree of the tree query whose rows the table has, and a tree query's table fulfils what `TreeTable` asks.
 use mathlib.Core.Path.{_≡_, refl, sym, ap, subst, _∙_}
 use mathlib.Core.Option.{Option, none, some}
 use mathlib.Core.List.{List, [], _∷_}
@@ -15,7 +15,7 @@ use Rattle.meaning.specs.TreeQuery.{Row, node, Query, Live, Tree}
 use Rattle.meaning.specs.Tree.{tree, sameLink, choose, kidsFrom, labRow, tagOf, plant, grow, treeOf}
 use Rattle.meaning.specs.Image.{markCode}
 use Rattle.rows.specs.Rows.{labOf, tagAt, mapT, noRow}
-use Rattle.order.specs.Table.{childrenOf, grown, tableShape, tableTree, parentOf, tableRows, Table}
+use Rattle.order.specs.Table.{childrenOf, grown, tableShape, tableTree, parentOf, tableRows, TreeTable}
 use Rattle.order.proofs.Growing.{Children, all-children}
 
 -- ------------------------------------------------------------------ one row
@@ -122,7 +122,7 @@ table-tree Q parent code mark n few e marks = tree-is parent code mark n (Q .s) 
 
 -- the table of a tree query may be put in order
 pub table-of-tree : (parent code mark : List ℕ) (n : ℕ) → n ≤ 256 → n ≤ length parent → n ≤ length code → n ≤ length mark
-    → ((i : ℕ) → i < n → getD code i 0 ≤ suc largestLabel) → ((i : ℕ) → i < n → getD mark i 0 ≤ 3) → Tree (tableRows parent code n 0) → Table parent code mark n
+    → ((i : ℕ) → i < n → getD code i 0 ≤ suc largestLabel) → ((i : ℕ) → i < n → getD mark i 0 ≤ 3) → Tree (tableRows parent code n 0) → TreeTable parent code mark n
 table-of-tree parent code mark n few lp lc lm labels marked T = record {
   few = few;
   parents = lp;

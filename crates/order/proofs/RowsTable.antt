@@ -13,7 +13,7 @@ use borrow.Author.Tests.{eq-eqb, ne-eqb}
 use Rattle.meaning.specs.Tree.{Forest, bare, tree, size, plant}
 use Rattle.rows.specs.Rows.{tagAt, below, shape, mapT, treeRows, Holds, Hung, noRow, Rows}
 use Rattle.rows.proofs.Rows.{size-holds, holds-first, row-opens, rows-top, row-up}
-use Rattle.order.specs.Table.{childrenOf, grown, tableShape, tableTree, Table}
+use Rattle.order.specs.Table.{childrenOf, grown, tableShape, tableTree, TreeTable}
 
 -- ------------------------------------------------------------------ children in rows
 -- the first nodes of the trees of a forest
@@ -174,7 +174,7 @@ module _ (code mark kids span up : List ℕ) (n : ℕ) (R : Rows code mark kids 
       go (yes q) = q
       go (no q) = absurd (omega (arith, row-up code mark kids span up n R c (omega arith) l .0, R .few))
 
-  pub rows-table : Table up code mark n
+  pub rows-table : TreeTable up code mark n
   rows-table = record {
     few = R .few;
     parents = R .ups;

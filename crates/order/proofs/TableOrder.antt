@@ -13,7 +13,7 @@ use Rattle.meaning.specs.Tree.{Forest, bare, tree, size, plant}
 use Rattle.meaning.specs.Image.{labCode, markCode, ordered}
 use Rattle.rows.specs.Rows.{labOf, tagAt, shape, mapT, treeRows, width, Counted, noRow, Rows}
 use Rattle.rows.proofs.Rows.{holds-is}
-use Rattle.order.specs.Table.{childrenOf, grown, tableShape, tableTree, Table}
+use Rattle.order.specs.Table.{childrenOf, grown, tableShape, tableTree, TreeTable}
 use Rattle.order.specs.Gathering.{Gathered}
 use Rattle.order.specs.Keys.{Keys}
 use Rattle.order.specs.Links.{orderedBy}
@@ -47,7 +47,7 @@ width-grown parent n zero p h = absurd (omega arith)
 width-grown parent n (suc m) p h = width-plant (grown m parent n) (childrenOf p parent n 0)
 
 -- ------------------------------------------------------------------ the table
-module _ (parent code mark : List ℕ) (n : ℕ) (T : Table parent code mark n) where
+module _ (parent code mark : List ℕ) (n : ℕ) (T : TreeTable parent code mark n) where
   -- the table's levels, one lower: above the top there is noRow
   abbrev pub lev : ℕ → ℕ
   lev p = cond (eqb p noRow) 0 (suc (T .level p))

@@ -44,7 +44,7 @@ tableRows parent code (suc k) j = node (parentOf (getD parent j 0)) (labOf (getD
 
 -- ------------------------------------------------------------------ when a table is a tree
 -- n rows that are a tree, or no rows: levels say that no row lies above itself, and at most one row, at level 0, has no parent
-pub record Table (parent code mark : List ℕ) (n : ℕ) : Type 0 where
+pub record TreeTable (parent code mark : List ℕ) (n : ℕ) : Type 0 where
   pub few : n ≤ 256
   pub parents : n ≤ length parent
   pub codes : n ≤ length code

@@ -7,7 +7,7 @@ ghost use Prim.Native.Nat.{ℕ, _+_, _<_, _≤_};
 ghost use lib.ListN.{length, getD, set};
 ghost use Rattle.meaning.specs.Image.{ordered};
 ghost use Rattle.rows.specs.Rows.{Rows, treeRows};
-ghost use Rattle.order.specs.Table.{Table, tableTree};
+ghost use Rattle.order.specs.Table.{TreeTable, tableTree};
 ghost use Rattle.order.specs.Keys.{written, Keyable, Keys};
 ghost use Rattle.order.specs.Gathering.{slotOf, Cleared, Slots, Gathered};
 ghost use Rattle.order.specs.Links.{Wide, Finite, forestAt, cmpF, goesFirst, spotOf, Ready, Placed, Loose, Ordered};
@@ -325,7 +325,7 @@ pub fn image_rows(
     span: &mut [u16],
     up: &mut [u16],
 )
-    requires { ⌜ Table (now parent) (now code) (now mark) n × Room n (now first) (now next) (now count) (now key) (now row) (now «out_code») (now «out_mark») (now kids) (now span) (now up) ⌝ }
+    requires { ⌜ TreeTable (now parent) (now code) (now mark) n × Room n (now first) (now next) (now count) (now key) (now row) (now «out_code») (now «out_mark») (now kids) (now span) (now up) ⌝ }
     ensures { λ _. ⌜ Rows (now («out_code» .exit)) (now («out_mark» .exit)) (now (kids .exit)) (now (span .exit)) (now (up .exit)) n × (treeRows (now («out_code» .exit)) (now («out_mark» .exit)) (now (span .exit)) n ≡ ordered (tableTree (now (parent .entry)) (now (code .entry)) (now (mark .entry)) n)) ⌝ }
 {
     clear(n, first, count);
