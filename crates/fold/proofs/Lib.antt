@@ -1,0 +1,2 @@
+mod Brothers
+mod Test
