@@ -14,7 +14,7 @@ use Rattle.meaning.specs.Tree.{Forest, bare, tree, Tag, Any}
 use Rattle.meaning.specs.Folding.{Folds, Onto}
 use Rattle.rows.specs.Rows.{tagAt, below, mapT, Holds}
 use Rattle.rows.proofs.Rows.{size-holds, Opens, holds-first, holds-opens}
-use Rattle.fold.specs.Kept.{kept, left, leftBelow, OntoRow}
+use Rattle.fold.specs.Kept.{kept, left, leftBelow, OntoRow, Apart}
 
 -- row j is one of the brothers
 abbrev pub Top : ℕ → Forest ℕ → Type 0
@@ -26,6 +26,9 @@ top-range span u e bare h j t = absurd t
 top-range span u e (tree i k r) h j (inl q) = let s = size-holds span u e (tree i k r) h in (omega (arith, h .0), omega (arith, h .0))
 top-range span u e (tree i k r) h j (inr t) =
     let z = top-range span _ e r (h .3) j t in (omega (arith, h .0), z .1)
+
+pub top-opens : (span : List ℕ) (u e : ℕ) (F : Forest ℕ) → Holds span u e F → (j : ℕ) → Top j F → Opens span j e
+top-opens span u e F h j t = let z = top-range span u e F h j t in holds-opens span u e F h j (z .0) (z .1)
 
 -- ------------------------------------------------------------------ a loop over the children of row p
 -- it has come to row a, the rows of p end at e, and P holds of each child before row a
@@ -98,9 +101,9 @@ module _ {span : List ℕ} {p : ℕ} {P : ℕ → Type 0} {a e : ℕ} (O : Over 
         go (no n) = omega arith
         go (yes n) = let z = top-range span a e (O .rest) (O .held) x (O .later x t n) in omega arith
 
-    pub over-map : {Q : ℕ → Type 0} → ((x : ℕ) → P x → Q x) → Over span p Q a e
+    pub over-map : {Q : ℕ → Type 0} → ((x : ℕ) → Top x (below span p) → P x → Q x) → Over span p Q a e
     over-map f =
-        record { ends = O .ends; rest = O .rest; held = O .held; inside = O .inside; later = O .later; shown = λ x t l. f x (O .shown x t l) }
+        record { ends = O .ends; rest = O .rest; held = O .held; inside = O .inside; later = O .later; shown = λ x t l. f x t (O .shown x t l) }
 
 -- ------------------------------------------------------------------ the rows that are still there
 module _ (code mark up : List ℕ) (p i : ℕ) (k r : Forest ℕ) where
@@ -118,69 +121,109 @@ left-bare code mark up p = refl
 
 module _ (code mark span up : List ℕ) (p : ℕ) where
   -- what is left of brothers, brother by brother: the first is there with what is left below it, or it is not there
-  pub left-ind : (Q : Forest ℕ → Forest Tag → Type 0) → Q bare bare
-      → ((i : ℕ) (r : Forest ℕ) → getD up i 0 ≡ p → Q r (left code mark up p r)
-        → Q (tree i (below span i) r) (tree (tagAt code mark i) (leftBelow code mark span up i) (left code mark up p r)))
-      → ((i : ℕ) (r : Forest ℕ) → ¬ (getD up i 0 ≡ p) → Q r (left code mark up p r) → Q (tree i (below span i) r) (left code mark up p r))
-      → (u e : ℕ) (F : Forest ℕ) → Holds span u e F → Q F (left code mark up p F)
-  left-ind Q none here away u e bare h = rw (left-bare code mark up p) none
-  left-ind Q none here away u e (tree i k r) h =
+  pub left-ind : (Q : Forest ℕ → Forest Tag → Type 0) (w e : ℕ) → Q bare bare
+      → ((i : ℕ) (r : Forest ℕ) → w ≤ i → Opens span i e → Holds span (i + getD span i 0) e r → Q r (left code mark up p r)
+        → (getD up i 0 ≡ p → Q (tree i (below span i) r) (tree (tagAt code mark i) (leftBelow code mark span up i) (left code mark up p r)))
+          × (¬ (getD up i 0 ≡ p) → Q (tree i (below span i) r) (left code mark up p r)))
+      → (u : ℕ) → w ≤ u → (F : Forest ℕ) → Holds span u e F → Q F (left code mark up p F)
+  left-ind Q w e none more u l bare h = rw (left-bare code mark up p) none
+  left-ind Q w e none more u l (tree i k r) h =
       let z = holds-first span u e i k r h in
-      let y : k ≡ below span i = sym (z .0) ∙ ap (below span) (h .0) in
-      rw y (go (ℕ-discrete (getD up i 0) p) (left-ind Q none here away (u + getD span u 0) e r (z .2)))
+      let d : u ≡ i = h .0 in
+      let y : k ≡ below span i = sym (z .0) ∙ ap (below span) d in
+      let o : Opens span i e = rw d at (z .1) in
+      let g : Holds span (i + getD span i 0) e r = rw d at (z .2) in
+      rw y (go (ℕ-discrete (getD up i 0) p) (more i r (omega arith) o g (left-ind Q w e none more (i + getD span i 0) (omega arith) r g)))
     where
-      go : Dec (getD up i 0 ≡ p) → Q r (left code mark up p r) → Q (tree i (below span i) r) (left code mark up p (tree i (below span i) r))
-      go (yes d) q = rw (left-here code mark up p i (below span i) r d) (here i r d q)
-      go (no d) q = rw (left-gone code mark up p i (below span i) r d) (away i r d q)
-
-  -- what row x bears and what is left below it are so
-  abbrev pub At : (Tag → Forest Tag → Type 0) → ℕ → Type 0
-  At P x = P (tagAt code mark x) (leftBelow code mark span up x)
+      go : Dec (getD up i 0 ≡ p)
+          → (getD up i 0 ≡ p → Q (tree i (below span i) r) (tree (tagAt code mark i) (leftBelow code mark span up i) (left code mark up p r)))
+            × (¬ (getD up i 0 ≡ p) → Q (tree i (below span i) r) (left code mark up p r))
+          → Q (tree i (below span i) r) (left code mark up p (tree i (below span i) r))
+      go (yes d) q = rw (left-here code mark up p i (below span i) r d) (q .0 d)
+      go (no d) q = rw (left-gone code mark up p i (below span i) r d) (q .1 d)
 
   -- some brother that is still there is so
-  abbrev pub Gives : (Tag → Forest Tag → Type 0) → Forest ℕ → Forest Tag → Type 0
-  Gives P F L = (y : ℕ) → Top y F → getD up y 0 ≡ p → At P y → Any P L
-
-  pub any-of-row : (P : Tag → Forest Tag → Type 0) (u e : ℕ) (F : Forest ℕ) → Holds span u e F → Gives P F (left code mark up p F)
-  any-of-row P = left-ind (Gives P) (λ y t q z. absurd t) here away
+  pub any-of-row : (P : Tag → Forest Tag → Type 0) (u e : ℕ) (F : Forest ℕ) → Holds span u e F
+      → (y : ℕ) → Top y F → getD up y 0 ≡ p → P (tagAt code mark y) (leftBelow code mark span up y) → Any P (left code mark up p F)
+  any-of-row P u e F h y t q z = left-ind (λ G L. Top y G → Any P L) u e (λ n. absurd n) (λ i r l o g f. (here i r f, away i r f)) u (omega arith) F h t
     where
-      here : (i : ℕ) (r : Forest ℕ) → getD up i 0 ≡ p → Gives P r (left code mark up p r)
-          → Gives P (tree i (below span i) r) (tree (tagAt code mark i) (leftBelow code mark span up i) (left code mark up p r))
-      here i r d f y (inl e) q z = inl (rw e at z)
-      here i r d f y (inr t) q z = inr (f y t q z)
+      here : (i : ℕ) (r : Forest ℕ) → (Top y r → Any P (left code mark up p r)) → getD up i 0 ≡ p → Top y (tree i (below span i) r)
+          → P (tagAt code mark i) (leftBelow code mark span up i) ⊎ Any P (left code mark up p r)
+      here i r f d (inl n) = inl (rw n at z)
+      here i r f d (inr n) = inr (f n)
 
-      away : (i : ℕ) (r : Forest ℕ) → ¬ (getD up i 0 ≡ p) → Gives P r (left code mark up p r) → Gives P (tree i (below span i) r) (left code mark up p r)
-      away i r n f y (inl e) q z = absurd (n (rw e at q))
-      away i r n f y (inr t) q z = f y t q z
+      away : (i : ℕ) (r : Forest ℕ) → (Top y r → Any P (left code mark up p r)) → ¬ (getD up i 0 ≡ p) → Top y (tree i (below span i) r)
+          → Any P (left code mark up p r)
+      away i r f d (inl n) = absurd (d (rw n at q))
+      away i r f d (inr n) = f n
 
-  abbrev pub Found : (Tag → Forest Tag → Type 0) → Forest ℕ → Forest Tag → Type 0
-  Found P F L = Any P L → (y : ℕ) × Top y F × (getD up y 0 ≡ p) × At P y
+  -- the row of a brother that is so
+  pub record Row (P : Tag → Forest Tag → Type 0) (F : Forest ℕ) : Type 0 where
+    pub row : ℕ
+    pub top : Top row F
+    pub there : getD up row 0 ≡ p
+    pub so : P (tagAt code mark row) (leftBelow code mark span up row)
 
-  pub row-of-any : (P : Tag → Forest Tag → Type 0) (u e : ℕ) (F : Forest ℕ) → Holds span u e F → Found P F (left code mark up p F)
-  row-of-any P = left-ind (Found P) (λ x. absurd x) here (λ i r n f x. let w = f x in (w .0, inr (w .1), w .2, w .3))
+  pub row-of-any : (P : Tag → Forest Tag → Type 0) (u e : ℕ) (F : Forest ℕ) → Holds span u e F → Any P (left code mark up p F) → Row P F
+  row-of-any P u e F h = left-ind (λ G L. Any P L → Row P G) u e (λ n. absurd n) (λ i r l o g f. (here i r f, λ d n. later i r (f n))) u (omega arith) F h
     where
-      here : (i : ℕ) (r : Forest ℕ) → getD up i 0 ≡ p → Found P r (left code mark up p r)
-          → Found P (tree i (below span i) r) (tree (tagAt code mark i) (leftBelow code mark span up i) (left code mark up p r))
-      here i r d f (inl z) = (i, inl refl, d, z)
-      here i r d f (inr x) = let w = f x in (w .0, inr (w .1), w .2, w .3)
+      later : (i : ℕ) (r : Forest ℕ) → Row P r → Row P (tree i (below span i) r)
+      later i r w = record { row = w .row; top = inr (w .top); there = w .there; so = w .so }
 
-  -- every brother that is still there folds onto some tree of g
-  abbrev pub EachOnto : Forest Tag → Forest ℕ → Type 0
-  EachOnto g F = (x : ℕ) → Top x F → getD up x 0 ≡ p → Any (Onto (tagAt code mark x) (leftBelow code mark span up x)) g
+      here : (i : ℕ) (r : Forest ℕ) → (Any P (left code mark up p r) → Row P r) → getD up i 0 ≡ p
+          → P (tagAt code mark i) (leftBelow code mark span up i) ⊎ Any P (left code mark up p r) → Row P (tree i (below span i) r)
+      here i r f d (inl z) = record { row = i; top = inl refl; there = d; so = z }
+      here i r f d (inr n) = later i r (f n)
 
-  pub folds-of-rows : (g : Forest Tag) (u e : ℕ) (F : Forest ℕ) → Holds span u e F → EachOnto g F → Folds (left code mark up p F) g
-  folds-of-rows g =
-      left-ind (λ F L. EachOnto g F → Folds L g) (λ f. tt) (λ i r d q f. (f i (inl refl) d, q (λ x t. f x (inr t)))) (λ i r n q f. q (λ x t. f x (inr t)))
+  -- brother x folds onto some tree of g
+  abbrev pub Lands : Forest Tag → ℕ → Type 0
+  Lands g x = getD up x 0 ≡ p → Any (Onto (tagAt code mark x) (leftBelow code mark span up x)) g
 
-  pub row-of-folds : (g : Forest Tag) (u e : ℕ) (F : Forest ℕ) → Holds span u e F → Folds (left code mark up p F) g → EachOnto g F
-  row-of-folds g = left-ind (λ F L. Folds L g → EachOnto g F) (λ f x t. absurd t) here away
+  pub folds-of-rows : (g : Forest Tag) (u e : ℕ) (F : Forest ℕ) → Holds span u e F → ((x : ℕ) → Top x F → Lands g x) → Folds (left code mark up p F) g
+  folds-of-rows g u e F h =
+      left-ind (λ G L. ((x : ℕ) → Top x G → Lands g x) → Folds L g) u e (λ f. tt)
+      (λ i r l o b q. (λ d f. (f i (inl refl) d, q (λ x t. f x (inr t))), λ d f. q (λ x t. f x (inr t)))) u (omega arith) F h
+
+  pub row-of-folds : (g : Forest Tag) (u e : ℕ) (F : Forest ℕ) → Holds span u e F → Folds (left code mark up p F) g → (x : ℕ) → Top x F → Lands g x
+  row-of-folds g u e F h f x t q =
+      left-ind (λ G L. Folds L g → Top x G → Any (Onto (tagAt code mark x) (leftBelow code mark span up x)) g) u e (λ z n. absurd n)
+      (λ i r l o b y. (here i r y, away i r y)) u (omega arith) F h f t
     where
-      here : (i : ℕ) (r : Forest ℕ) → getD up i 0 ≡ p → (Folds (left code mark up p r) g → EachOnto g r)
-          → Folds (tree (tagAt code mark i) (leftBelow code mark span up i) (left code mark up p r)) g → EachOnto g (tree i (below span i) r)
-      here i r d f (a, b) x (inl e) q = rw e a
-      here i r d f (a, b) x (inr t) q = f b x t q
+      here : (i : ℕ) (r : Forest ℕ) → (Folds (left code mark up p r) g → Top x r → Any (Onto (tagAt code mark x) (leftBelow code mark span up x)) g)
+          → getD up i 0 ≡ p → Folds (tree (tagAt code mark i) (leftBelow code mark span up i) (left code mark up p r)) g
+          → Top x (tree i (below span i) r) → Any (Onto (tagAt code mark x) (leftBelow code mark span up x)) g
+      here i r y d (a, b) (inl n) = rw n a
+      here i r y d (a, b) (inr n) = y b n
 
-      away : (i : ℕ) (r : Forest ℕ) → ¬ (getD up i 0 ≡ p) → (Folds (left code mark up p r) g → EachOnto g r)
-          → Folds (left code mark up p r) g → EachOnto g (tree i (below span i) r)
-      away i r n f b x (inl e) q = absurd (n (rw e at q))
-      away i r n f b x (inr t) q = f b x t q
+      away : (i : ℕ) (r : Forest ℕ) → (Folds (left code mark up p r) g → Top x r → Any (Onto (tagAt code mark x) (leftBelow code mark span up x)) g)
+          → ¬ (getD up i 0 ≡ p) → Folds (left code mark up p r) g → Top x (tree i (below span i) r)
+          → Any (Onto (tagAt code mark x) (leftBelow code mark span up x)) g
+      away i r y d b (inl n) = absurd (d (rw n at q))
+      away i r y d b (inr n) = y b n
+
+  -- no two brothers fold, if no row of one that is still there folds onto the row of another
+  pub apart-of-rows : (u e : ℕ) (F : Forest ℕ) → Holds span u e F
+      → ((x y : ℕ) → Top x F → Top y F → getD up x 0 ≡ p → getD up y 0 ≡ p → ¬ (x ≡ y) → ¬ OntoRow code mark span up x y) → Apart (left code mark up p F)
+  apart-of-rows u e F h =
+      left-ind (λ G L. Each G → Apart L) u e (λ f. tt)
+      (λ i r l o b q. (λ d f. (q (later i r f), here i r o b d f, there i r o b d f), λ d f. q (later i r f))) u (omega arith) F h
+    where
+      Each : Forest ℕ → Type 0
+      Each G = (x y : ℕ) → Top x G → Top y G → getD up x 0 ≡ p → getD up y 0 ≡ p → ¬ (x ≡ y) → ¬ OntoRow code mark span up x y
+
+      later : (i : ℕ) (r : Forest ℕ) → Each (tree i (below span i) r) → Each r
+      later i r f x y s t = f x y (inr s) (inr t)
+
+      here : (i : ℕ) (r : Forest ℕ) → Opens span i e → Holds span (i + getD span i 0) e r → getD up i 0 ≡ p → Each (tree i (below span i) r)
+          → ¬ Any (λ b j. Onto (tagAt code mark i) (leftBelow code mark span up i) b j) (left code mark up p r)
+      here i r o b d f n =
+          let w = row-of-any (Onto (tagAt code mark i) (leftBelow code mark span up i)) _ e r b n in
+          let z = top-range span _ e r b (w .row) (w .top) in
+          f i (w .row) (inl refl) (inr (w .top)) d (w .there) (λ q. omega (arith, o .some)) (w .so)
+
+      there : (i : ℕ) (r : Forest ℕ) → Opens span i e → Holds span (i + getD span i 0) e r → getD up i 0 ≡ p → Each (tree i (below span i) r)
+          → ¬ Any (λ b j. Onto b j (tagAt code mark i) (leftBelow code mark span up i)) (left code mark up p r)
+      there i r o b d f n =
+          let w = row-of-any (λ c j. Onto c j (tagAt code mark i) (leftBelow code mark span up i)) _ e r b n in
+          let z = top-range span _ e r b (w .row) (w .top) in
+          f (w .row) i (inr (w .top)) (inl refl) (w .there) d (λ q. omega (arith, o .some)) (w .so)

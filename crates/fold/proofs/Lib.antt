@@ -1,2 +1,3 @@
 mod Brothers
 mod Test
+mod Children

@@ -16,7 +16,7 @@ use Rattle.meaning.specs.Folding.{LabLe, MarkLe, TagLe, Folds, Onto, decMark, d
 use Rattle.rows.specs.Rows.{labOf, tagAt, below, Holds}
 use Rattle.rows.proofs.Rows.{Opens, holds-first}
 use Rattle.fold.specs.Kept.{leftBelow, marksFit, OntoRow, ontoRow, height, Stands}
-use Rattle.fold.proofs.Brothers.{Top, Over, over-child, over-step, over-next, any-of-row, row-of-any, folds-of-rows, row-of-folds}
+use Rattle.fold.proofs.Brothers.{Top, Over, Lands, over-child, over-step, over-next, any-of-row, row-of-any, folds-of-rows, row-of-folds}
 
 -- ------------------------------------------------------------------ decisions as truth values
 is-yes : {P : Type 0} (d : Dec P) → P → true ≡ is d
@@ -115,10 +115,6 @@ module _ (code mark span up : List ℕ) where
         held = o .held;
       }
 
-  -- x, if it is still there below u, folds onto some child of v
-  abbrev pub Lands : ℕ → ℕ → ℕ → Type 0
-  Lands u v x = getD up x 0 ≡ u → Any (Onto (tagAt code mark x) (leftBelow code mark span up x)) (leftBelow code mark span up v)
-
   -- a does not fold onto y, if y is still there below v
   abbrev pub Misses : ℕ → ℕ → ℕ → Type 0
   Misses v a y = getD up y 0 ≡ v → ¬ OntoRow code mark span up a y
@@ -137,11 +133,11 @@ module _ (code mark span up : List ℕ) where
     onto-no-tag e = is-no (ontoDec code mark span up u v) (λ o. false-is (tagDec code mark u v) e (o .0))
 
     module _ (S : Stands code mark span up u) (R : Stands code mark span up v) where
-      pub onto-each : is (decTag (tagAt code mark u) (tagAt code mark v)) ≡ true → ((x : ℕ) → Top x (below span u) → Lands u v x) → true ≡ ontoRow code mark span up u v
+      pub onto-each : is (decTag (tagAt code mark u) (tagAt code mark v)) ≡ true → ((x : ℕ) → Top x (below span u) → Lands code mark span up u (leftBelow code mark span up v) x) → true ≡ ontoRow code mark span up u v
       unfolding ontoRow
       onto-each e f = is-yes (ontoDec code mark span up u v) (true-is (tagDec code mark u v) e, folds-of-rows code mark span up u (leftBelow code mark span up v) _ _ (below span u) (S .held) f)
 
-      pub onto-some : (a b : ℕ) → Top b (below span v) → getD up b 0 ≡ v → OntoRow code mark span up a b → Lands u v a
+      pub onto-some : (a b : ℕ) → Top b (below span v) → getD up b 0 ≡ v → OntoRow code mark span up a b → Lands code mark span up u (leftBelow code mark span up v) a
       onto-some a b t q o d = any-of-row code mark span up v (Onto (tagAt code mark a) (leftBelow code mark span up a)) _ _ (below span v) (R .held) b t q o
 
       pub onto-none : (a : ℕ) → Top a (below span u) → getD up a 0 ≡ u
@@ -151,7 +147,7 @@ module _ (code mark span up : List ℕ) where
           is-no (ontoDec code mark span up u v) (λ o.
             let x = row-of-folds code mark span up u (leftBelow code mark span up v) _ _ (below span u) (S .held) (o .1) a t q in
             let w = row-of-any code mark span up v (Onto (tagAt code mark a) (leftBelow code mark span up a)) _ _ (below span v) (R .held) x in
-            n (w .0) (w .1) (w .2) (w .3))
+            n (w .row) (w .top) (w .there) (w .so))
 
 -- ------------------------------------------------------------------ the height falls
 pub height-child : (span : List ℕ) (u e : ℕ) (F : Forest ℕ) → Holds span u e F → (a : ℕ) → Top a F → height (below span a) < height F
@@ -164,7 +160,7 @@ height-child span u e (tree i k r) h a (inr t) = let z = height-child span _ e r
 -- ------------------------------------------------------------------ the loops of the test
 -- the loop over the children of u stands at row a (called a₀ where the loop over the children of v began), the latter at row b
 module _ {code mark span up : List ℕ} {u v : ℕ} (S : Stands code mark span up u) (R : Stands code mark span up v) {a a₀ b eu ev : ℕ}
-    (O : Over span u (Lands code mark span up u v) a₀ eu) (l : a₀ < eu) (q : a ≡ a₀) (I : Over span v (Misses code mark span up v a₀) b ev) (m : b < ev) where
+    (O : Over span u (Lands code mark span up u (leftBelow code mark span up v)) a₀ eu) (l : a₀ < eu) (q : a ≡ a₀) (I : Over span v (Misses code mark span up v a₀) b ev) (m : b < ev) where
   pub calls : {t : ℕ} → height (below span u) ≡ t → (height (below span a) < t) × (Stands code mark span up a × Stands code mark span up b)
   calls h =
       let c = over-child O l in
@@ -177,7 +173,7 @@ module _ {code mark span up : List ℕ} {u v : ℕ} (S : Stands code mark span u
 
     -- b is still there and a folds onto it: on with the next child of u
     pub lands : {r w : Bool} → r ≡ eqb (getD up b 0) v → r ≡ true → w ≡ ontoRow code mark span up a b → w ≡ true
-        → Over span u (Lands code mark span up u v) (a + s) eu
+        → Over span u (Lands code mark span up u (leftBelow code mark span up v)) (a + s) eu
     lands e f g h =
         let o = rw q at (true-onto code mark span up a b (sym g ∙ h)) in
         rw q (over-next O l (rw q at d) (onto-some code mark span up u v S R a₀ b (over-child I m .0) (eqb-true _ _ (sym e ∙ f)) o))

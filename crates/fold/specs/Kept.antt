@@ -75,13 +75,17 @@ pub record Goes (span up up′ : List ℕ) (p j : ℕ) : Type 0 where
   pub child : getD up j 0 ≡ p
   pub away : getD up′ j 0 ≡ goneRow
 
+-- nothing has changed but that some children of row p have gone
+abbrev pub Only : List ℕ → ℕ → List ℕ → List ℕ → Type 0
+Only span p up up′ = (j : ℕ) → (getD up′ j 0 ≡ getD up j 0) ⊎ Goes span up up′ p j
+
 -- the children of row p are folded to the end: what is left below p folds onto what was there and back, no two children are left that fold,
 -- and nothing has changed but that some children of p have gone
 pub record ChildrenFolded (code mark span up : List ℕ) (p : ℕ) (up′ : List ℕ) : Type 0 where
   pub to : Folds (leftBelow code mark span up p) (leftBelow code mark span up′ p)
   pub from : Folds (leftBelow code mark span up′ p) (leftBelow code mark span up p)
   pub apart : Apart (leftBelow code mark span up′ p)
-  pub only : (j : ℕ) → (getD up′ j 0 ≡ getD up j 0) ⊎ Goes span up up′ p j
+  pub only : Only span p up up′
 
 -- n rows that are a tree, or no rows; nothing is asked of the numbers of children, nor of labels and marks
 pub record Whole (code mark span up : List ℕ) (n : ℕ) : Type 0 where

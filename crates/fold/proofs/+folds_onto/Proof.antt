@@ -4,9 +4,9 @@ use mathlib.Core.Logic.{⊎-elim, inl, inr}
 use native.Mathlib.Omega.{arith}
 use borrow.Author.Tests.{not-true, not-false, eqb-true, eqb-false}
 use Rattle.rows.specs.Rows.{below}
-use Rattle.fold.specs.Kept.{height}
-use Rattle.fold.proofs.Brothers.{Over, over-start, over-child, over-step, over-next, over-all}
-use Rattle.fold.proofs.Test.{Lands, Misses, onto-no-tag, onto-each, onto-none, calls, step, lands, misses}
+use Rattle.fold.specs.Kept.{leftBelow, height}
+use Rattle.fold.proofs.Brothers.{Over, Lands, over-start, over-child, over-step, over-next, over-all}
+use Rattle.fold.proofs.Test.{Misses, onto-no-tag, onto-each, onto-none, calls, step, lands, misses}
 use Prim.Native.Nat.{ℕ, _<_}
 use borrow.Fn.Kinds.{In}
 use borrow.Fn.PlainCycle.{Measures, is, falls, and}
@@ -37,7 +37,7 @@ folds-onto-Inv-loop code mark span up u v u-end v-end a₀ b₀ a b = (a ≡ a�
 abbrev folds-onto-μ-loop : folds-onto-lts.MeasureT-loop
 folds-onto-μ-loop code mark span up u v u-end v-end a₀ b₀ a b = v-end - b
 abbrev folds-onto-Inv-child : folds-onto-lts.InvT-child
-folds-onto-Inv-child code mark span up u v u-end v-end a₀ a = Over span u (Lands code mark span up u v) a u-end
+folds-onto-Inv-child code mark span up u v u-end v-end a₀ a = Over span u (Lands code mark span up u (leftBelow code mark span up v)) a u-end
 abbrev folds-onto-μ-child : folds-onto-lts.MeasureT-child
 folds-onto-μ-child code mark span up u v u-end v-end a₀ a = u-end - a
 -- src/lib.rt:73:9
