@@ -53,57 +53,57 @@ over-start span p P e q h =
     })
 
 module _ {span : List ℕ} {p : ℕ} {P : ℕ → Type 0} {a e : ℕ} (O : Over span p P a e) where
-    -- row a is the next child
-    pub over-child : a < e → Top a (below span p) × Opens span a (p + getD span p 0)
-    over-child l = go (O .rest) (O .held) (O .inside)
-      where
-        go : (G : Forest ℕ) → Holds span a e G → ((x : ℕ) → Top x G → Top x (below span p)) → Top a (below span p) × Opens span a (p + getD span p 0)
-        go bare h to = absurd (omega arith)
-        go (tree i k r) h to = (to a (inl (h .0)), rw (O .ends) at (holds-first span a e i k r h .1))
+  -- row a is the next child
+  pub over-child : a < e → Top a (below span p) × Opens span a (p + getD span p 0)
+  over-child l = go (O .rest) (O .held) (O .inside)
+    where
+      go : (G : Forest ℕ) → Holds span a e G → ((x : ℕ) → Top x G → Top x (below span p)) → Top a (below span p) × Opens span a (p + getD span p 0)
+      go bare h to = absurd (omega arith)
+      go (tree i k r) h to = (to a (inl (h .0)), rw (O .ends) at (holds-first span a e i k r h .1))
 
-    -- s more rows lead to the next one
-    pub over-step : a < e → {s : ℕ} → s ≡ getD span a 0 → (1 ≤ s) × (a + s ≤ e)
-    over-step l q = let o = over-child l .1 in (omega (arith, o .some), omega (arith, o .inside, O .ends))
+  -- s more rows lead to the next one
+  pub over-step : a < e → {s : ℕ} → s ≡ getD span a 0 → (1 ≤ s) × (a + s ≤ e)
+  over-step l q = let o = over-child l .1 in (omega (arith, o .some), omega (arith, o .inside, O .ends))
 
-    pub over-next : a < e → {s : ℕ} → s ≡ getD span a 0 → P a → Over span p P (a + s) e
-    over-next l q z = rw q (go (O .rest) (O .held) (O .inside) (O .later))
-      where
-        go : (G : Forest ℕ) → Holds span a e G → ((x : ℕ) → Top x G → Top x (below span p)) → ((x : ℕ) → Top x (below span p) → a ≤ x → Top x G)
-            → Over span p P (a + getD span a 0) e
-        go bare h to all = absurd (omega arith)
-        go (tree i k r) h to all =
-            let y = holds-first span a e i k r h in
-            record {
-              ends = O .ends;
-              rest = r;
-              held = y .2;
-              inside = λ x t. to x (inr t);
-              later = λ x t m. behind x m (y .1 .some) (all x t (omega (arith, y .1 .some)));
-              shown = λ x t m. upto x m (y .2) (decLe a x) (O .shown x t) (all x t);
-            }
-          where
-            behind : (x : ℕ) → a + getD span a 0 ≤ x → 1 ≤ getD span a 0 → Top x (tree i k r) → Top x r
-            behind x m w (inl d) = absurd (omega (arith, h .0))
-            behind x m w (inr t) = t
+  pub over-next : a < e → {s : ℕ} → s ≡ getD span a 0 → P a → Over span p P (a + s) e
+  over-next l q z = rw q (go (O .rest) (O .held) (O .inside) (O .later))
+    where
+      go : (G : Forest ℕ) → Holds span a e G → ((x : ℕ) → Top x G → Top x (below span p)) → ((x : ℕ) → Top x (below span p) → a ≤ x → Top x G)
+          → Over span p P (a + getD span a 0) e
+      go bare h to all = absurd (omega arith)
+      go (tree i k r) h to all =
+          let y = holds-first span a e i k r h in
+          record {
+            ends = O .ends;
+            rest = r;
+            held = y .2;
+            inside = λ x t. to x (inr t);
+            later = λ x t m. behind x m (y .1 .some) (all x t (omega (arith, y .1 .some)));
+            shown = λ x t m. upto x m (y .2) (decLe a x) (O .shown x t) (all x t);
+          }
+        where
+          behind : (x : ℕ) → a + getD span a 0 ≤ x → 1 ≤ getD span a 0 → Top x (tree i k r) → Top x r
+          behind x m w (inl d) = absurd (omega (arith, h .0))
+          behind x m w (inr t) = t
 
-            first : (x : ℕ) → x < a + getD span a 0 → Holds span (a + getD span a 0) e r → Top x (tree i k r) → x ≡ a
-            first x m w (inl d) = d ∙ sym (h .0)
-            first x m w (inr t) = let v = top-range span (a + getD span a 0) e r w x t in absurd (omega arith)
+          first : (x : ℕ) → x < a + getD span a 0 → Holds span (a + getD span a 0) e r → Top x (tree i k r) → x ≡ a
+          first x m w (inl d) = d ∙ sym (h .0)
+          first x m w (inr t) = let v = top-range span (a + getD span a 0) e r w x t in absurd (omega arith)
 
-            upto : (x : ℕ) → x < a + getD span a 0 → Holds span (a + getD span a 0) e r → Dec (a ≤ x) → (x < a → P x) → (a ≤ x → Top x (tree i k r)) → P x
-            upto x m w (no n) f g = f (omega arith)
-            upto x m w (yes n) f g = rw (first x m w (g n)) z
+          upto : (x : ℕ) → x < a + getD span a 0 → Holds span (a + getD span a 0) e r → Dec (a ≤ x) → (x < a → P x) → (a ≤ x → Top x (tree i k r)) → P x
+          upto x m w (no n) f g = f (omega arith)
+          upto x m w (yes n) f g = rw (first x m w (g n)) z
 
-    pub over-all : e ≤ a → (x : ℕ) → Top x (below span p) → P x
-    over-all l x t = O .shown x t (go (decLe a x))
-      where
-        go : Dec (a ≤ x) → x < a
-        go (no n) = omega arith
-        go (yes n) = let z = top-range span a e (O .rest) (O .held) x (O .later x t n) in omega arith
+  pub over-all : e ≤ a → (x : ℕ) → Top x (below span p) → P x
+  over-all l x t = O .shown x t (go (decLe a x))
+    where
+      go : Dec (a ≤ x) → x < a
+      go (no n) = omega arith
+      go (yes n) = let z = top-range span a e (O .rest) (O .held) x (O .later x t n) in omega arith
 
-    pub over-map : {Q : ℕ → Type 0} → ((x : ℕ) → Top x (below span p) → P x → Q x) → Over span p Q a e
-    over-map f =
-        record { ends = O .ends; rest = O .rest; held = O .held; inside = O .inside; later = O .later; shown = λ x t l. f x t (O .shown x t l) }
+  pub over-map : {Q : ℕ → Type 0} → ((x : ℕ) → Top x (below span p) → P x → Q x) → Over span p Q a e
+  over-map f =
+      record { ends = O .ends; rest = O .rest; held = O .held; inside = O .inside; later = O .later; shown = λ x t l. f x t (O .shown x t l) }
 
 -- ------------------------------------------------------------------ the rows that are still there
 module _ (code mark up : List ℕ) (p i : ℕ) (k r : Forest ℕ) where
@@ -123,8 +123,8 @@ module _ (code mark span up : List ℕ) (p : ℕ) where
   -- what is left of brothers, brother by brother: the first is there with what is left below it, or it is not there
   pub left-ind : (Q : Forest ℕ → Forest Tag → Type 0) (w e : ℕ) → Q bare bare
       → ((i : ℕ) (r : Forest ℕ) → w ≤ i → Opens span i e → Holds span (i + getD span i 0) e r → Q r (left code mark up p r)
-        → (getD up i 0 ≡ p → Q (tree i (below span i) r) (tree (tagAt code mark i) (leftBelow code mark span up i) (left code mark up p r)))
-          × (¬ (getD up i 0 ≡ p) → Q (tree i (below span i) r) (left code mark up p r)))
+      → (getD up i 0 ≡ p → Q (tree i (below span i) r) (tree (tagAt code mark i) (leftBelow code mark span up i) (left code mark up p r)))
+      × (¬ (getD up i 0 ≡ p) → Q (tree i (below span i) r) (left code mark up p r)))
       → (u : ℕ) → w ≤ u → (F : Forest ℕ) → Holds span u e F → Q F (left code mark up p F)
   left-ind Q w e none more u l bare h = rw (left-bare code mark up p) none
   left-ind Q w e none more u l (tree i k r) h =
@@ -137,7 +137,7 @@ module _ (code mark span up : List ℕ) (p : ℕ) where
     where
       go : Dec (getD up i 0 ≡ p)
           → (getD up i 0 ≡ p → Q (tree i (below span i) r) (tree (tagAt code mark i) (leftBelow code mark span up i) (left code mark up p r)))
-            × (¬ (getD up i 0 ≡ p) → Q (tree i (below span i) r) (left code mark up p r))
+          × (¬ (getD up i 0 ≡ p) → Q (tree i (below span i) r) (left code mark up p r))
           → Q (tree i (below span i) r) (left code mark up p (tree i (below span i) r))
       go (yes d) q = rw (left-here code mark up p i (below span i) r d) (q .0 d)
       go (no d) q = rw (left-gone code mark up p i (below span i) r d) (q .1 d)

@@ -196,13 +196,15 @@ module _ {code mark span up₀ up₁ up : List ℕ} {p a₁ a b e : ℕ} (S : St
       let h = over-child O l in
       let k = brother a₁ b (eqb (getD up₁ b 0) p) (rw (u, q) at (sym x ∙ y)) in
       let o = true-onto code mark span up₁ a₁ b (rw (u, q) at (sym f ∙ g)) in
-      rw (u, q)
-      (record {
-        long = length-set up₁ a₁ goneRow ∙ W .long;
-        only = only-trans span p up₀ up₁ (set up₁ a₁ goneRow) (W .only) (goes-only code mark span up₁ p a₁ T (h .0) c);
-        equal =
-          equal-trans (leftBelow code mark span up₀ p) (leftBelow code mark span up₁ p) (leftBelow code mark span (set up₁ a₁ goneRow) p) (W .equal) (goes-equal code mark span up₁ p a₁ T (h .0) c b (over-child I m .0) (eqb-true _ _ (k .1)) (k .0) o);
-      }, over-next (over-map O (goes-alone code mark span up₁ p a₁ T (h .0) c)) l (rw q at d) (λ z. absurd (was code mark span up₁ p a₁ T (h .0) c a₁ z .0 refl)))
+      rw (u, q) (
+        record {
+          long = length-set up₁ a₁ goneRow ∙ W .long;
+          only = only-trans span p up₀ up₁ (set up₁ a₁ goneRow) (W .only) (goes-only code mark span up₁ p a₁ T (h .0) c);
+          equal =
+              equal-trans (leftBelow code mark span up₀ p) (leftBelow code mark span up₁ p) (leftBelow code mark span (set up₁ a₁ goneRow) p) (W .equal) (goes-equal code mark span up₁ p a₁ T (h .0) c b (over-child I m .0) (eqb-true _ _ (k .1)) (k .0) o);
+        },
+        over-next (over-map O (goes-alone code mark span up₁ p a₁ T (h .0) c)) l (rw q at d) (λ z. absurd (was code mark span up₁ p a₁ T (h .0) c a₁ z .0 refl)),
+      )
 
   -- b is not another child, or a does not fold onto it: on with the next one
   pub misses : {s : ℕ} → s ≡ getD span b 0 → (r : Bool) → r ≡ (not (eqb a b) && eqb (getD up b 0) p)

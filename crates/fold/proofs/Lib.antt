@@ -1,3 +1,4 @@
 mod Brothers
 mod Test
 mod Children
+mod Whole

@@ -145,9 +145,9 @@ module _ (code mark span up : List ℕ) where
       unfolding ontoRow
       onto-none a t q n =
           is-no (ontoDec code mark span up u v) (λ o.
-            let x = row-of-folds code mark span up u (leftBelow code mark span up v) _ _ (below span u) (S .held) (o .1) a t q in
-            let w = row-of-any code mark span up v (Onto (tagAt code mark a) (leftBelow code mark span up a)) _ _ (below span v) (R .held) x in
-            n (w .row) (w .top) (w .there) (w .so))
+          let x = row-of-folds code mark span up u (leftBelow code mark span up v) _ _ (below span u) (S .held) (o .1) a t q in
+          let w = row-of-any code mark span up v (Onto (tagAt code mark a) (leftBelow code mark span up a)) _ _ (below span v) (R .held) x in
+          n (w .row) (w .top) (w .there) (w .so))
 
 -- ------------------------------------------------------------------ the height falls
 pub height-child : (span : List ℕ) (u e : ℕ) (F : Forest ℕ) → Holds span u e F → (a : ℕ) → Top a F → height (below span a) < height F
@@ -163,9 +163,10 @@ module _ {code mark span up : List ℕ} {u v : ℕ} (S : Stands code mark span u
     (O : Over span u (Lands code mark span up u (leftBelow code mark span up v)) a₀ eu) (l : a₀ < eu) (q : a ≡ a₀) (I : Over span v (Misses code mark span up v a₀) b ev) (m : b < ev) where
   pub calls : {t : ℕ} → height (below span u) ≡ t → (height (below span a) < t) × (Stands code mark span up a × Stands code mark span up b)
   calls h =
-      let c = over-child O l in
-      (rw (q, ← h) (height-child span _ _ (below span u) (S .held) a₀ (c .0)),
-        (rw q (stands-child code mark span up u a₀ S (c .1)), stands-child code mark span up v b R (over-child I m .1)))
+      let c = over-child O l in (
+        rw (q, ← h) (height-child span _ _ (below span u) (S .held) a₀ (c .0)),
+        (rw q (stands-child code mark span up u a₀ S (c .1)), stands-child code mark span up v b R (over-child I m .1)),
+      )
 
   module _ {s : ℕ} (d : s ≡ getD span a 0) where
     pub step : (1 ≤ s) × (a + s ≤ eu)

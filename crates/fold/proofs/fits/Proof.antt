@@ -15,6 +15,7 @@ marks-fit-requires c κs = search needs
 -- src/lib.rt:43:9
 returns : tie.Need-returns
 returns c = fits-no-mark (c .before .before .before .before .args .code .now) (c .before .before .before .before .args .mark .now) (c .before .before .before .before .args .u) (c .before .before .before .before .args .v) (sym (c .before .marks-fit .ensures) ∙ not-true _ (c .if1 .taken))
+
 -- src/lib.rt:45:13
 mul-x : tie.Need-mul-x
 mul-x c = search needs
@@ -26,6 +27,7 @@ shared-slice-read-x c = search needs
 -- src/lib.rt:47:9
 returns-2 : tie.Need-returns-2
 returns-2 c = fits-any (c .before .before .before .before .before .before .args .code .now) (c .before .before .before .before .before .before .args .mark .now) (c .before .before .before .before .before .before .args .u) (c .before .before .before .before .before .before .args .v) (sym (c .before .before .before .marks-fit .ensures) ∙ not-false _ (c .before .before .if1 .left)) (c .if2 .taken)
+
 -- src/lib.rt:49:10
 mul-result : tie.Need-mul-result
 mul-result c = search needs
@@ -37,6 +39,7 @@ shared-slice-read-result c = search needs
 -- src/lib.rt:38:1
 returns-3 : tie.Need-returns-3
 returns-3 c = fits-same (c .before .before .before .before .before .before .before .args .code .now) (c .before .before .before .before .before .before .before .args .mark .now) (c .before .before .before .before .before .before .before .args .u) (c .before .before .before .before .before .before .before .args .v) (sym (c .before .before .before .before .marks-fit .ensures) ∙ not-false _ (c .before .before .before .if1 .left)) (c .before .if2 .left)
+
 pub fits-spec : {M : Type 1} → statement M
 fits-spec =
     tie.close

@@ -1,4 +1,3 @@
-
 use borrow.Author.Needs.{needs}
 use Rattle.fold.proofs.is_child.Statement.{statement}
 use Rattle.fold.proofs.is_child.Tie as tie
@@ -21,5 +20,6 @@ wide-requires c κs = search needs
 -- src/lib.rt:61:1
 returns : tie.Need-returns
 returns c = rw (c .wide .ensures)
+
 pub is-child-spec : {M : Type 1} → statement M
 is-child-spec = tie.close (tie.spec mul-wide shared-slice-read-wide wide-requires returns)

@@ -17,12 +17,15 @@ shared-slice-read-t c = search needs
 -- src/lib.rt:29:9
 returns : tie.Need-returns
 returns c = marks-no-src _ _ (c .if1 .taken)
+
 -- src/lib.rt:32:9
 returns-2 : tie.Need-returns-2
 returns-2 c = marks-no-dst _ _ (omega arith) (c .if2 .taken)
+
 -- src/lib.rt:22:1
 returns-3 : tie.Need-returns-3
 returns-3 c = marks-dst _ _ (omega arith) (omega arith)
+
 pub marks-fit-spec : {M : Type 1} → statement M
 marks-fit-spec =
     tie.close (tie.spec shared-slice-read-s shared-slice-read-t returns returns-2 returns-3)
