@@ -2,3 +2,4 @@ mod Brothers
 mod Test
 mod Children
 mod Whole
+mod Moved

@@ -5,13 +5,14 @@ use mathlib.Core.Logic.{_⊎_}
 use mathlib.Core.Bool.{Bool, cond}
 use mathlib.Core.List.{List}
 use Prim.Native.Nat.{ℕ, suc, _+_, _%_, _≤_, _<_, max}
-use lib.ListN.{length, getD}
+use lib.ListN.{length, getD, set}
 use lib.Dec.{ltb, eqb}
 use Rattle.meaning.specs.Basics.{is, decBoth}
-use Rattle.meaning.specs.Tree.{Forest, bare, tree, Tag, Any}
+use Rattle.meaning.specs.Tree.{Forest, bare, tree, Tag, Any, size}
 use Rattle.meaning.specs.Folding.{Folds, Onto, decMark, decOnto, minimal}
 use Rattle.meaning.specs.Image.{ordered}
-use Rattle.rows.specs.Rows.{tagAt, below, shape, mapT, treeRows, Holds, Hung, width, noRow}
+use Rattle.rows.specs.Rows.{tagAt, below, shape, mapT, treeRows, Holds, Hung, width, noRow, Rows}
+use Rattle.order.specs.Table.{tableTree, Table}
 
 -- ------------------------------------------------------------------ what is still there
 -- the number that a row's parent number becomes when the row goes: no row has it, and it is not `noRow`
@@ -102,3 +103,40 @@ pub record Whole (code mark span up : List ℕ) (n : ℕ) : Type 0 where
 pub record RowsFolded (code mark span up : List ℕ) (n : ℕ) (up′ : List ℕ) : Type 0 where
   pub least : ordered (keptTree code mark span up′ n) ≡ ordered (minimal (treeRows code mark span n))
   pub only : (j : ℕ) → (getD up′ j 0 ≡ getD up j 0) ⊎ ((0 < j) × (j < n) × (getD up′ j 0 ≡ goneRow))
+
+-- ------------------------------------------------------------------ the rows that are left, one after the other
+-- the rows of a tree of which some have gone, but not the top
+pub record Remains (code mark span up : List ℕ) (n : ℕ) : Type 0 where
+  pub kids : List ℕ
+  pub was : List ℕ
+  pub rows : Rows code mark kids span was n
+  pub ups : n ≤ length up
+  pub only : (j : ℕ) → (getD up j 0 ≡ getD was j 0) ⊎ ((0 < j) × (j < n) × (getD up j 0 ≡ goneRow))
+
+-- the new number of row i's parent, when row p has moved to row `getD moved p 0`
+unfoldable pub parentMoved : List ℕ → List ℕ → ℕ → ℕ
+parentMoved up moved i = cond (eqb (getD up i 0) noRow) noRow (getD moved (getD up i 0) 0)
+
+-- row i, whose parent is none or a row, can be put at place j
+pub record Movable (code mark up : List ℕ) (i : ℕ) (parent moved : List ℕ) (j : ℕ) : Type 0 where
+  pub codes : i < length code
+  pub marks : i < length mark
+  pub ups : i < length up
+  pub parents : j < length parent
+  pub moves : i < length moved
+  pub front : j ≤ i
+  pub few : i < 256
+  pub above : (getD up i 0 ≡ noRow) ⊎ (getD up i 0 < length moved)
+
+-- row i is put at place j
+pub record RowMoved (code mark up : List ℕ) (i : ℕ) (parent moved : List ℕ) (j : ℕ) (code′ mark′ parent′ moved′ : List ℕ) : Type 0 where
+  pub codes : code′ ≡ set code j (getD code i 0)
+  pub marks : mark′ ≡ set mark j (getD mark i 0)
+  pub parents : parent′ ≡ set parent j (parentMoved up moved i)
+  pub moves : moved′ ≡ set moved i j
+
+-- the first r rows are the table of the tree that was left
+pub record RowsKept (code mark span up : List ℕ) (n : ℕ) (code′ mark′ parent : List ℕ) (r : ℕ) : Type 0 where
+  pub table : Table parent code′ mark′ r
+  pub same : tableTree parent code′ mark′ r ≡ keptTree code mark span up n
+  pub count : r ≡ size (keptTree code mark span up n)

@@ -4,13 +4,16 @@ ghost use mathlib.Core.Path.{_≡_};
 ghost use Prim.Native.Nat.{_+_, _<_, _≤_};
 ghost use lib.ListN.{length, getD};
 ghost use lib.Dec.{eqb};
+ghost use mathlib.Core.Logic.{_⊎_};
 ghost use mathlib.Core.Bool.{not, _&&_};
 ghost use Rattle.meaning.specs.Basics.{is};
 ghost use Rattle.meaning.specs.Folding.{decTag};
-ghost use Rattle.rows.specs.Rows.{tagAt};
-ghost use Rattle.fold.specs.Kept.{marksFit, ontoRow, Stands, ChildrenFolded, Whole, RowsFolded};
+ghost use Rattle.rows.specs.Rows.{tagAt, noRow};
+ghost use Rattle.fold.specs.Kept.{marksFit, ontoRow, Stands, ChildrenFolded, Whole, RowsFolded, parentMoved, Movable, RowMoved, Remains, RowsKept};
 
 const GONE: u16 = 65534;
+
+const NO_ROW: u16 = 65535;
 
 fn wide(x: u16) -> usize
     ensures { λ r. ⌜ r ≡ x ⌝ }
@@ -141,4 +144,46 @@ pub fn fold_rows(code: &[u32], mark: &[u8], span: &[u16], up: &mut [u16], n: usi
         p -= 1;
         fold_children(code, mark, span, up, p);
     }
+}
+
+// The new number of row i's parent.
+fn parent_moved(up: &[u16], moved: &[u16], i: usize) -> u16
+    requires { ⌜ (i < length (now up)) × ((getD (now up) i 0 ≡ noRow) ⊎ (getD (now up) i 0 < length (now moved))) ⌝ }
+    ensures { λ r. ⌜ r ≡ parentMoved (now (up .entry)) (now (moved .entry)) i ⌝ }
+{
+    let p = up[i];
+    if p == NO_ROW {
+        return NO_ROW;
+    }
+    moved[wide(p)]
+}
+
+// Row i is put at place j.
+fn move_row(code: &mut [u32], mark: &mut [u8], up: &[u16], i: usize, parent: &mut [u16], moved: &mut [u16], j: usize)
+    requires { ⌜ Movable (now code) (now mark) (now up) i (now parent) (now moved) j ⌝ }
+    ensures { λ _. ⌜ RowMoved (now (code .entry)) (now (mark .entry)) (now (up .entry)) i (now (parent .entry)) (now (moved .entry)) j (now (code .exit)) (now (mark .exit)) (now (parent .exit)) (now (moved .exit)) ⌝ }
+{
+    code[j] = code[i];
+    mark[j] = mark[i];
+    parent[j] = parent_moved(up, moved, i);
+    moved[i] = j as u16;
+}
+
+// The rows that are still there, in their order, are put to the front, each with the new number of its parent. Returns how many there are.
+pub fn keep_rows(code: &mut [u32], mark: &mut [u8], span: &[u16], up: &[u16], n: usize, parent: &mut [u16], moved: &mut [u16]) -> usize
+    requires { ⌜ Remains (now code) (now mark) (now span) (now up) n × (n ≤ length (now parent)) × (n ≤ length (now moved)) ⌝ }
+    ensures { λ r. ⌜ RowsKept (now (code .entry)) (now (mark .entry)) (now (span .entry)) (now (up .entry)) n (now (code .exit)) (now (mark .exit)) (now (parent .exit)) r ⌝ }
+{
+    let mut i: usize = 0;
+    let mut j: usize = 0;
+    while i < n {
+        if up[i] == GONE {
+            i += span_at(span, i);
+            continue;
+        }
+        move_row(code, mark, up, i, parent, moved, j);
+        j += 1;
+        i += 1;
+    }
+    j
 }
