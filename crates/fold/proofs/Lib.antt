@@ -1,0 +1,5 @@
+mod Brothers
+mod Test
+mod Children
+mod Whole
+mod Moved
