@@ -1,0 +1,3 @@
+-- Laws over plain lists and numbers; the folders beside prove the functions with them.
+mod Codes
+mod Merged

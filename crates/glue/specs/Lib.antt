@@ -1,0 +1,2 @@
+-- What the numbers in the lent slices stand for in the definitions of `meaning`.
+pub mod Rows
