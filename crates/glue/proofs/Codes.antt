@@ -16,9 +16,11 @@ use Rattle.glue.specs.Rows.{parentOf, rowAt, listed, table, ifRows}
 
 -- ------------------------------------------------------------------ parents
 pub parent-none : (p : ℕ) → p ≡ noRow → parentOf p ≡ none
+unfolding parentOf
 parent-none p e = rw (eq-eqb p noRow e)
 
 pub parent-some : (p : ℕ) → p ≢ noRow → parentOf p ≡ some p
+unfolding parentOf
 parent-some p ne = rw (ne-eqb p noRow ne)
 
 pub orElse-none : (u v : ℕ) → u ≡ noRow → parentOf v ≡ orElse (parentOf u) (parentOf v)

@@ -1,3 +1,4 @@
 -- Laws over plain lists and numbers; the folders beside prove the functions with them.
 mod Codes
 mod Merged
+mod Climb

@@ -38,10 +38,10 @@ moved-cases x y i a b c d = by-cases (ℕ-discrete i y)
     (λ ne. by-cases (decLt i y) (λ lt. c lt (moved-low x y i lt)) (λ ge. d (omega arith) (moved-high x y i (omega arith))))
 
 pub moved-bound : (x y i b : ℕ) → x < b → i < b → moved x y i < b
-moved-bound x y i b lx li = moved-cases x y i (λ _ e. omega arith) (λ _ e. omega arith) (λ _ e. omega arith) (λ _ e. omega arith)
+moved-bound x y i b lx li = moved-cases x y i (λ h e. omega arith) (λ h e. omega arith) (λ h e. omega arith) (λ h e. omega arith)
 
 pub moved-less : (x y i n : ℕ) → x ≢ y → x < n → y < n → i < n → suc (moved x y i) < n
-moved-less x y i n ne lx ly li = moved-cases x y i (λ _ e. omega arith) (λ _ e. omega arith) (λ _ e. omega arith) (λ _ e. omega arith)
+moved-less x y i n ne lx ly li = moved-cases x y i (λ h e. omega arith) (λ h e. omega arith) (λ h e. omega arith) (λ h e. omega arith)
 
 -- the row of x
 pub moved-row : (x y n z : ℕ) → z ≡ moved x y x → x ≢ y → x < n → y < n → suc z < n
@@ -54,7 +54,7 @@ pub before-high : (y i : ℕ) → y ≤ i → i + 1 ≡ back y i
 before-high y i le = let z = back-high y i le in omega arith
 
 pub relinked-none : (x y p : ℕ) → p ≡ noRow → parentOf noRow ≡ mapped (moved x y) (parentOf p)
-relinked-none x y p e = rw (parent-none p e)
+relinked-none x y p e = rw (parent-none p e) (parent-none noRow refl)
 
 pub relinked-some : (x y p j : ℕ) → p ≢ noRow → p < 65536 → x < noRow → j ≡ moved x y p → parentOf j ≡ mapped (moved x y) (parentOf p)
 relinked-some x y p j ne lp lx e =

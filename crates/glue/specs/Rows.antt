@@ -15,7 +15,7 @@ use Rattle.glue.specs.declared.gluing.Joined.{Joined}
 use Rattle.glue.specs.declared.gluing.Built.{Built}
 
 -- the parent that a number stands for
-abbrev pub parentOf : ℕ → Option ℕ
+unfoldable pub parentOf : ℕ → Option ℕ
 parentOf p = cond (eqb p noRow) none (some p)
 
 abbrev pub rowAt : List ℕ → List ℕ → ℕ → Row
