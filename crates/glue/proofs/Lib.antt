@@ -2,3 +2,6 @@
 mod Codes
 mod Merged
 mod Climb
+mod Shift
+mod Depth
+mod TwoTrees
