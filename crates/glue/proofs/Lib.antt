@@ -5,3 +5,5 @@ mod Climb
 mod Shift
 mod Depth
 mod TwoTrees
+mod Parts
+mod Operands

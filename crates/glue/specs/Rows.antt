@@ -3,7 +3,7 @@
 use mathlib.Core.Bool.{cond}
 use mathlib.Core.Option.{Option, none, some}
 use mathlib.Core.List.{List, [], _∷_}
-use Prim.Native.Nat.{ℕ, zero, suc, _≤_}
+use Prim.Native.Nat.{ℕ, zero, suc, _-_, _≤_}
 use lib.ListN.{length, getD, drop}
 use lib.Dec.{eqb}
 use Rattle.meaning.specs.TreeQuery.{Lab, Row, node, Table, Query}
@@ -67,6 +67,10 @@ query n P L s d = record { rows = table n P L; s = s; d = d }
 -- the query whose rows are the n behind the first a
 abbrev pub queryFrom : ℕ → ℕ → List ℕ → List ℕ → ℕ → ℕ → Query
 queryFrom a n P L s d = query n (drop a P) (drop a L) s d
+
+-- the query whose rows are those from a up to b; none where there are no rows
+abbrev pub part : List ℕ → List ℕ → ℕ → ℕ → ℕ → ℕ → Option Query
+part P L a b s d = ifRows (b - a) (queryFrom a (b - a) P L s d)
 
 abbrev pub builtOf : Built → List ℕ → List ℕ → Option Query
 builtOf r P L = ifRows (r .rows) (query (r .rows) P L (r .s) (r .d))

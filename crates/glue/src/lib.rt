@@ -6,3 +6,4 @@ pub mod merging; // merging.rt: one row stands for two
 pub mod gluing; // gluing.rt: level by level, between two trees and inside one
 
 
+pub mod pool; // pool.rt: the pending operands
