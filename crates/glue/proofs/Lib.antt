@@ -1,0 +1,9 @@
+-- Laws over plain lists and numbers; the folders beside prove the functions with them.
+mod Codes
+mod Merged
+mod Climb
+mod Shift
+mod Depth
+mod TwoTrees
+mod Parts
+mod Operands

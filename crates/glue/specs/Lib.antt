@@ -1,0 +1,3 @@
+-- What the numbers in the lent slices stand for in the definitions of `meaning`.
+pub mod Rows
+pub mod Pool

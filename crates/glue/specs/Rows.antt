@@ -1,0 +1,76 @@
+-- The rows of a tree query as two lists of numbers: parents, with noRow at a top, and label codes.
+-- "No rows" stands for empty, in every answer of this crate.
+use mathlib.Core.Bool.{cond}
+use mathlib.Core.Option.{Option, none, some}
+use mathlib.Core.List.{List, [], _∷_}
+use Prim.Native.Nat.{ℕ, zero, suc, _-_, _≤_}
+use lib.ListN.{length, getD, drop}
+use lib.Dec.{eqb}
+use Rattle.meaning.specs.TreeQuery.{Lab, Row, node, Table, Query}
+use Rattle.meaning.specs.Gluing.{Glued}
+use Rattle.rows.specs.Rows.{labOf, noRow}
+use Rattle.glue.specs.declared.merging.Met.{Met}
+use Rattle.glue.specs.declared.merging.Met.the-variants.{Label, Clash}
+use Rattle.glue.specs.declared.gluing.Joined.{Joined}
+use Rattle.glue.specs.declared.gluing.Built.{Built}
+
+-- the parent that a number stands for
+unfoldable pub parentOf : ℕ → Option ℕ
+parentOf p = cond (eqb p noRow) none (some p)
+
+abbrev pub rowAt : List ℕ → List ℕ → ℕ → Row
+rowAt P L i = node (parentOf (getD P i 0)) (labOf (getD L i 0))
+
+abbrev pub listed : ℕ → (ℕ → Row) → Table
+listed zero f = []
+listed (suc n) f = f 0 ∷ listed n (λ i. f (suc i))
+
+-- the first n rows
+unfoldable pub table : ℕ → List ℕ → List ℕ → Table
+table n P L = listed n (rowAt P L)
+
+-- the lists have room for n rows, and n is no more than the pool has
+pub record Room (n : ℕ) (P L : List ℕ) : Type 0 where
+  pub small : n ≤ 512
+  pub parents : n ≤ length P
+  pub labels : n ≤ length L
+
+-- what two labels make
+abbrev pub metOf : Met → Option Lab
+metOf Clash = none
+metOf (Label m) = some (labOf m)
+
+-- no rows: empty
+abbrev pub ifRows : {A : Type 0} → ℕ → A → Option A
+ifRows zero a = none
+ifRows (suc n) a = some a
+
+-- ------------------------------------------------------------------ a glued table with three of its nodes
+pub record Marked : Type 0 where
+  pub rows : Table
+  pub s : ℕ
+  pub d : ℕ
+  pub d2 : ℕ
+
+abbrev pub marked : Option Glued → ℕ → ℕ → ℕ → Option Marked
+marked none s d d2 = none
+marked (some g) s d d2 = some (record { rows = g .rows; s = g .to s; d = g .to d; d2 = g .to d2 })
+
+abbrev pub joinedOf : Joined → List ℕ → List ℕ → Option Marked
+joinedOf r P L = ifRows (r .rows) (record { rows = table (r .rows) P L; s = r .s; d = r .d; d2 = r .d2 })
+
+-- ------------------------------------------------------------------ tree queries
+-- the query whose rows are the first n
+abbrev pub query : ℕ → List ℕ → List ℕ → ℕ → ℕ → Query
+query n P L s d = record { rows = table n P L; s = s; d = d }
+
+-- the query whose rows are the n behind the first a
+abbrev pub queryFrom : ℕ → ℕ → List ℕ → List ℕ → ℕ → ℕ → Query
+queryFrom a n P L s d = query n (drop a P) (drop a L) s d
+
+-- the query whose rows are those from a up to b; none where there are no rows
+abbrev pub part : List ℕ → List ℕ → ℕ → ℕ → ℕ → ℕ → Option Query
+part P L a b s d = ifRows (b - a) (queryFrom a (b - a) P L s d)
+
+abbrev pub builtOf : Built → List ℕ → List ℕ → Option Query
+builtOf r P L = ifRows (r .rows) (query (r .rows) P L (r .s) (r .d))
