@@ -1,0 +1,4 @@
+pub mod Tables
+pub mod Labels
+pub mod Kinship
+pub mod Filling
