@@ -157,6 +157,7 @@ module _ (P L : List ℕ) (G : Good P L) where
   pub child-doc : (v x : ℕ) → Child (docOf P L) v x ↔ ((0 < x) × (x < length P) × (getD P x 0 ≡ v))
   child-doc v x =
       let p : docRow (docOf P L) x .parent ≡ getD P x 0 = ap (λ (r : DocRow). r .parent) (doc-row P L (G .labels) x) in
-      let n = doc-length P L (G .labels) in
-      (λ h. let a = h .inside in let b = h .lower in let d = h .above in (omega arith, omega arith, sym p ∙ h .above),
-        λ (z, l, e). let w = G .lower x z l in record { inside = omega arith; lower = omega arith; above = p ∙ e })
+      let n = doc-length P L (G .labels) in (
+        λ h. let a = h .inside in let b = h .lower in let d = h .above in (omega arith, omega arith, sym p ∙ h .above),
+        λ (z, l, e). let w = G .lower x z l in record { inside = omega arith; lower = omega arith; above = p ∙ e },
+      )

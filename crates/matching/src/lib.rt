@@ -152,7 +152,15 @@ fn span_at(span: &[u16], u: usize) -> usize
 
 // Fills row u, when the rows behind it are filled: the nodes whose label fits, less those that lack a child for some child of u.
 // Where the row is empty nothing is left to take away.
-fn match_row(w: &mut [u8], code: &[u32], span: &[u16], n: usize, u: usize, parents: &[u32], labels: &[u32])
+fn match_row(
+    w: &mut [u8],
+    code: &[u32],
+    span: &[u16],
+    n: usize,
+    u: usize,
+    parents: &[u32],
+    labels: &[u32],
+)
     requires { ⌜ Ready (now w) (now code) (now span) (now parents) (now labels) n u ⌝ }
     ensures { λ _. ⌜ RowIs (now (w .entry)) u (Lies (now (code .entry)) (now (span .entry)) (now (parents .entry)) (now (labels .entry)) u) (now (w .exit)) ⌝ }
 {
@@ -169,7 +177,14 @@ fn match_row(w: &mut [u8], code: &[u32], span: &[u16], n: usize, u: usize, paren
 }
 
 // Fills the match table of the n rows of a query on a document, from the last query node to the first. No rows are empty: all bits stay clear.
-pub fn match_table(workspace: &mut [u8], code: &[u32], span: &[u16], n: usize, parents: &[u32], labels: &[u32])
+pub fn match_table(
+    workspace: &mut [u8],
+    code: &[u32],
+    span: &[u16],
+    n: usize,
+    parents: &[u32],
+    labels: &[u32],
+)
     requires { ⌜ Query (now code) (now span) n × (goodTable (now parents) (now labels) ≡ true) × (tableBytes ≤ length (now workspace)) ⌝ }
     ensures { λ _. ⌜ ((mark : List ℕ) → MatchTable (treeRows (now (code .entry)) mark (now (span .entry)) n) (docOf (now (parents .entry)) (now (labels .entry))) (now (workspace .entry)) (now (workspace .exit))) ⌝ }
 {

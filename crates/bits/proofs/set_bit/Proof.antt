@@ -26,6 +26,7 @@ same-length c = search needs
 
 returns : tie.Need-returns
 returns c = bit-set _ _ _ (c .before .pre .1) (c .before .pre .2)
+
 pub set-bit-spec : {M : Type 1} → statement M
 set-bit-spec =
     tie.close (tie.spec mul-i add-i slice-read-w cast-w shl-w slice-write-w same-length returns)

@@ -21,6 +21,7 @@ shr-result c = search needs
 
 returns : tie.Need-returns
 returns c = unfold bitAt in rw (and-one _)
+
 pub test-bit-spec : {M : Type 1} → statement M
 test-bit-spec =
     tie.close (tie.spec mul-i add-i shared-slice-read-result cast-result shr-result returns)

@@ -11,7 +11,9 @@ shl-result c = search needs
 
 returns : tie.Need-returns
 returns c = put-on _ _ _ (c .before .pre) (c .if1 .taken)
+
 returns-2 : tie.Need-returns-2
 returns-2 c = put-off _ _ _ (c .if1 .left)
+
 pub with-bit-spec : {M : Type 1} → statement M
 with-bit-spec = tie.close (tie.spec cast-result shl-result returns returns-2)

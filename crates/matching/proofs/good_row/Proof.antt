@@ -1,19 +1,17 @@
+use borrow.Author.Needs.{needs}
+use native.Mathlib.Omega.{arith}
+use Rattle.matching.proofs.Tables.{row-label, row-root, row-lower}
 use Rattle.matching.proofs.good_row.Statement.{statement}
 use Rattle.matching.proofs.good_row.Tie as tie
-use Rattle.matching.proofs.good_row.Reads as reads
-use Rattle.matching.proofs.good_row.Lts as lts
 
--- src/lib.rt:20:9
 returns : tie.Need-returns
-returns c = ?
+returns c = row-label (c .before .args .x) (c .before .args .parent) (c .before .args .label) (c .if1 .taken)
 
--- src/lib.rt:23:9
 returns-2 : tie.Need-returns-2
-returns-2 c = ?
+returns-2 c = row-root (c .before .before .args .x) (c .before .before .args .parent) (c .before .before .args .label) (omega arith) (c .if2 .taken)
 
--- src/lib.rt:16:1
 returns-3 : tie.Need-returns-3
-returns-3 c = ?
+returns-3 c = row-lower (c .before .before .args .x) (c .before .before .args .parent) (c .before .before .args .label) (omega arith) (c .if2 .left)
 
 pub good-row-spec : {M : Type 1} → statement M
 good-row-spec = tie.close (tie.spec returns returns-2 returns-3)

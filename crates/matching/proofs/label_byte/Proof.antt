@@ -1,47 +1,41 @@
+use borrow.Author.Needs.{needs}
+use Prim.Native.Nat.{_-_, _≤_}
+use native.Mathlib.Omega.{arith}
+use Rattle.matching.proofs.Labels.{ByteTo, byte-none, byte-more}
 use Rattle.matching.proofs.label_byte.Statement.{statement}
 use Rattle.matching.proofs.label_byte.Tie as tie
-use Rattle.matching.proofs.label_byte.Reads as reads
-use Rattle.matching.proofs.label_byte.Lts as lts
 use Rattle.bits.proofs.with_bit.Reads as with-bit-reads
 use Rattle.matching.proofs.fits_at.Reads as fits-at-reads
 
 abbrev Inv-loop : tie.InvT-loop
-Inv-loop code labels from b₀ k₀ b k = ?
+Inv-loop code labels from b₀ k₀ b k = (k ≤ 8) × ByteTo code labels from k b
 
 abbrev μ-loop : tie.MeasureT-loop
-μ-loop code labels from b₀ k₀ b k = ?
+μ-loop code labels from b₀ k₀ b k = 8 - k
 
--- src/lib.rt:72:5
 loop-holds : tie.Need-loop-holds Inv-loop μ-loop
-loop-holds c = ?
+loop-holds c = (omega arith, byte-none _ _ _)
 
--- src/lib.rt:73:42
 add-fits-at : tie.Need-add-fits-at Inv-loop μ-loop
-add-fits-at c = ?
+add-fits-at c = search needs
 
--- src/lib.rt:73:13
 fits-at-requires : tie.Need-fits-at-requires Inv-loop μ-loop
-fits-at-requires c κs = ?
+fits-at-requires c κs = search needs
 
--- src/lib.rt:74:9
 with-bit-requires : tie.Need-with-bit-requires Inv-loop μ-loop
-with-bit-requires c κs = ?
+with-bit-requires c κs = search needs
 
--- src/lib.rt:75:9
 add-k : tie.Need-add-k Inv-loop μ-loop
-add-k c = ?
+add-k c = search needs
 
--- src/lib.rt:72:5
 loop-less : tie.Need-loop-less Inv-loop μ-loop
-loop-less c = ?
+loop-less c = search needs
 
--- src/lib.rt:72:5
 loop-again : tie.Need-loop-again Inv-loop μ-loop
-loop-again c = ?
+loop-again c = (omega arith, byte-more _ _ _ _ _ _ _ (c .before .before .before .loop .inv .1) (c .before .fits-at .ensures) (c .with-bit .ensures))
 
--- src/lib.rt:66:1
 returns : tie.Need-returns Inv-loop μ-loop
-returns c = ?
+returns c = λ k l. c .before .loop .inv .1 .low k (omega arith)
 
 pub label-byte-spec : {M : Type 1} → statement M
 label-byte-spec =

@@ -1,37 +1,30 @@
+use native.Mathlib.Omega.{arith}
+use Rattle.matching.proofs.Kinship.{low-set, added-set, added-not}
 use borrow.Author.Needs.{needs}
 use Rattle.matching.proofs.mark_parent.Statement.{statement}
 use Rattle.matching.proofs.mark_parent.Tie as tie
-use Rattle.matching.proofs.mark_parent.Reads as reads
-use Rattle.matching.proofs.mark_parent.Lts as lts
 use Rattle.bits.proofs.set_bit.Reads as set-bit-reads
 
--- src/lib.rt:100:17
 mul-p : tie.Need-mul-p
-mul-p c = ?
+mul-p c = let l = c .before .before .before .pre .2 (low-set _ (c .if1 .taken)) in search needs
 
--- src/lib.rt:100:17
 shared-slice-read-p : tie.Need-shared-slice-read-p
-shared-slice-read-p c = ?
+shared-slice-read-p c = c .before .before .before .before .pre .2 (low-set _ (c .before .if1 .taken))
 
--- src/lib.rt:100:17
 cast-p : tie.Need-cast-p
-cast-p c = ?
+cast-p c = omega (arith, c .shared-slice-known2 .given (c .before .before .before .before .args .x))
 
--- src/lib.rt:101:9
 set-bit-requires : tie.Need-set-bit-requires
-set-bit-requires c κs = ?
+set-bit-requires c κs = (omega arith, c .before .before .before .before .before .pre .0 .small _ (c .before .before .before .before .before .pre .2 (low-set _ (c .before .before .if1 .taken))), omega (arith, c .before .before .before .before .before .pre .1))
 
--- src/lib.rt:102:9
 same-length : tie.Need-same-length
 same-length c = search needs
 
--- src/lib.rt:102:9
 returns : tie.Need-returns
-returns c = ?
+returns c = added-set _ _ _ _ (c .before .before .before .before .before .if1 .taken) (c .before .before .set-bit .ensures)
 
--- src/lib.rt:95:1
 returns-2 : tie.Need-returns-2
-returns-2 c = ?
+returns-2 c = added-not _ _ _ (c .if1 .left)
 
 pub mark-parent-spec : {M : Type 1} → statement M
 mark-parent-spec =

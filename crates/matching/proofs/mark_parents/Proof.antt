@@ -1,42 +1,37 @@
+use borrow.Author.Needs.{needs}
+use Prim.Native.Nat.{_≤_}
+use native.Mathlib.Omega.{arith}
+use Rattle.matching.proofs.Kinship.{Adding, adding-none, adding-more, adding-all}
 use Rattle.matching.proofs.mark_parents.Statement.{statement}
 use Rattle.matching.proofs.mark_parents.Tie as tie
-use Rattle.matching.proofs.mark_parents.Reads as reads
-use Rattle.matching.proofs.mark_parents.Lts as lts
 use Rattle.matching.proofs.mark_parent.Reads as mark-parent-reads
 
 abbrev Inv-loop : tie.InvT-loop
-Inv-loop byte first parents has₀ b₀ x₀ has b x = ?
+Inv-loop byte first parents has₀ b₀ x₀ has b x = Adding parents has₀ byte first has b x
 
 abbrev μ-loop : tie.MeasureT-loop
-μ-loop byte first parents has₀ b₀ x₀ has b x = ?
+μ-loop byte first parents has₀ b₀ x₀ has b x = b
 
--- src/lib.rt:113:5
 loop-holds : tie.Need-loop-holds Inv-loop μ-loop
-loop-holds c = ?
+loop-holds c = adding-none _ _ _ _ (c .before .before .pre .3)
 
--- src/lib.rt:114:9
 mark-parent-requires : tie.Need-mark-parent-requires Inv-loop μ-loop
-mark-parent-requires c κs = ?
+mark-parent-requires c κs = (c .before .before .before .before .before .pre .0, omega (arith, c .before .before .loop .inv .same, c .before .before .before .before .before .pre .1), λ e. let z = c .before .before .loop .inv .inside 0 e in omega arith)
 
--- src/lib.rt:116:9
 add-x : tie.Need-add-x Inv-loop μ-loop
-add-x c = ?
+add-x c = omega (arith, c .before .before .before .before .before .loop .inv .small, c .before .before .before .before .before .before .before .before .pre .2)
 
--- src/lib.rt:113:5
 loop-less : tie.Need-loop-less Inv-loop μ-loop
-loop-less c = ?
+loop-less c = search needs
 
--- src/lib.rt:113:5
 loop-again : tie.Need-loop-again Inv-loop μ-loop
-loop-again c = ?
+loop-again c = adding-more _ _ _ _ _ _ _ _ (c .before .before .before .before .loop-test .taken) (c .before .before .mark-parent .ensures) (c .before .before .before .before .before .loop .inv)
 
--- src/lib.rt:107:1
 same-length : tie.Need-same-length Inv-loop μ-loop
-same-length c = ?
+same-length c = c .before .loop .inv .same
 
--- src/lib.rt:107:1
 returns : tie.Need-returns Inv-loop μ-loop
-returns c = ?
+returns c = adding-all _ _ _ _ _ _ _ (omega arith) (c .before .loop .inv)
 
 pub mark-parents-spec : {M : Type 1} → statement M
 mark-parents-spec =
