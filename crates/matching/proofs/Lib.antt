@@ -2,3 +2,4 @@ pub mod Tables
 pub mod Labels
 pub mod Kinship
 pub mod Filling
+pub mod Climbing
