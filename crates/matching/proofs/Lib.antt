@@ -3,3 +3,4 @@ pub mod Labels
 pub mod Kinship
 pub mod Filling
 pub mod Climbing
+pub mod Selecting
