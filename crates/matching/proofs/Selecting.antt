@@ -35,9 +35,12 @@ under-in D (some v) x h = h .inside
 -- one function of three: x at i, f from there up to e, f′ from e on
 stitch : (i e x : ℕ) (f f′ : ℕ → ℕ) → i < e
     → (h : ℕ → ℕ) × (h i ≡ x) × ((j : ℕ) → i < j → j < e → h j ≡ f j) × ((j : ℕ) → e ≤ j → h j ≡ f′ j)
-stitch i e x f f′ l =
-    (λ j. cond (eqb j i) x (cond (ltb j e) (f j) (f′ j)), rw (eq-eqb i i refl), λ j a b. rw (ne-eqb j i (λ z. omega arith), lt-ltb j e b),
-      λ j a. rw (ne-eqb j i (λ z. omega arith), le-ltb j e a))
+stitch i e x f f′ l = (
+  λ j. cond (eqb j i) x (cond (ltb j e) (f j) (f′ j)),
+  rw (eq-eqb i i refl),
+  λ j a b. rw (ne-eqb j i (λ z. omega arith), lt-ltb j e b),
+  λ j a. rw (ne-eqb j i (λ z. omega arith), le-ltb j e a),
+)
 
 -- some node of the rows from u up to e is so
 holds-row : (p : Tag → Bool) (tag : ℕ → Tag) (span : List ℕ) (u e : ℕ) (F : Forest ℕ) → Holds span u e F → holds p (mapT tag F) ≡ true
@@ -64,7 +67,7 @@ in-row p tag span i e k z h t = go (p (tag i)) refl t
     go true y s = let l = size-holds span (suc i) e k h in (i, omega arith, omega arith, y)
     go false y s = let (j, a, b, r) = holds-row p tag span (suc i) e k h s in (j, omega arith, b, r)
 
-module _ (w mark up P : List ℕ) (rows : ℕ) (q : Asked w mark up P rows) (m n : ℕ) where
+module _ (w mark up P : List ℕ) (q : Asked w mark up P) (m n : ℕ) where
   abbrev D : Doc
   D = docOf P (q .labels)
 
@@ -74,16 +77,16 @@ module _ (w mark up P : List ℕ) (rows : ℕ) (q : Asked w mark up P rows) (m n
   abbrev tag : ℕ → Tag
   tag = tagAt (q .code) mark
 
-  abbrev R : Rows (q .code) mark (q .kids) (q .span) up rows
+  abbrev R : Rows (q .code) mark (q .kids) (q .span) up (q .rows)
   R = q .tree
 
   -- what a bit says
-  pub bit-lays : (u x : ℕ) → u < rows → x < length P → (bitAt w u x ≡ true) ↔ LaysAt D (tag u) (mapT tag (below (q .span) u)) x
+  pub bit-lays : (u x : ℕ) → u < (q .rows) → x < length P → (bitAt w u x ≡ true) ↔ LaysAt D (tag u) (mapT tag (below (q .span) u)) x
   bit-lays u x l lx =
       let few = R .few in
       let gew = G .few in
       let b = q .bits u x (omega arith) (omega arith) in
-      let c = can-lie (q .code) mark (q .span) rows (R .laid) D u x l in
+      let c = can-lie (q .code) mark (q .span) (q .rows) (R .laid) D u x l in
       (λ t. c .0 (b .0 t), λ y. b .1 (c .1 y))
 
   -- ---------------------------------------------------------------- a laying of the tree lays its ways
@@ -91,7 +94,7 @@ module _ (w mark up P : List ℕ) (rows : ℕ) (q : Asked w mark up P rows) (m n
   abbrev Suited : ℕ → ℕ → Type 0
   Suited i x = MarkOn (tag i .src) x m × MarkOn (tag i .dst) x n × LaysAt D (tag i) (mapT tag (below (q .span) i)) x
 
-  -- among rows from c on below row p, which lies on v: row i lies directly below v, or on a child of its parent's place
+  -- among (q .rows) from c on below row p, which lies on v: row i lies directly below v, or on a child of its parent's place
   abbrev Joined : ℕ → ℕ → Option ℕ → (ℕ → ℕ) → ℕ → Type 0
   Joined p c v h i = ((getD up i 0 ≡ p) × Under D v (h i)) ⊎ ((c ≤ getD up i 0) × (getD up i 0 < i) × Child D (h (getD up i 0)) (h i))
 
@@ -127,41 +130,44 @@ module _ (w mark up P : List ℕ) (rows : ℕ) (q : Asked w mark up P rows) (m n
               far (inl (a, un)) = inl (a, rw (br j (omega arith)) un)
               far (inr (a, a′, ch)) = inr (omega (arith, h .0), a′, rw (br (getD up j 0) a, br j (omega arith)) ch)
 
-  spread-way : (h : ℕ → ℕ) → ((i : ℕ) → 0 ≤ i → i < rows → Suited i (h i) × Joined noRow 0 none h i) → (u : ℕ) → u < rows → WayLaid w up P (q .span) h u
+  spread-way : (h : ℕ → ℕ) → ((i : ℕ) → 0 ≤ i → i < (q .rows) → Suited i (h i) × Joined noRow 0 none h i) → (u : ℕ) → u < (q .rows) → WayLaid w up P (q .span) h u
   spread-way h f u l c a b =
       let s = f c (omega arith) (omega arith) in
       let i = in-doc P (q .labels) G (h c) .0 (s .0 .2 .0) in
-      record { inside = i; bit = bit-lays c (h c) (omega arith) i .1 (s .0 .2); edge = λ z. edge (s .1) (row-up (q .code) mark (q .kids) (q .span) up rows R c z (omega arith) .0) }
+      record { inside = i; bit = bit-lays c (h c) (omega arith) i .1 (s .0 .2); edge = λ z. edge (s .1) (row-up (q .code) mark (q .kids) (q .span) up (q .rows) R c z (omega arith) .0) }
     where
       edge : Joined noRow 0 none h c → getD up c 0 < c → (0 < h c) × (getD P (h c) 0 ≡ h (getD up c 0))
       edge (inl (e, _)) y = let few = R .few in absurd (omega arith)
       edge (inr (_, _, ch)) y = let d = child-doc P (q .labels) G (h (getD up c 0)) (h c) .0 ch in (d .0, d .2)
 
-  rows-some : 0 < rows
+  rows-some : 0 < (q .rows)
   rows-some = let l = q .s .inside in omega arith
 
-  top : Top (q .code) mark (q .kids) (q .span) up rows R
-  top = rows-top (q .code) mark (q .kids) (q .span) up rows R rows-some
+  top : Top (q .code) mark (q .kids) (q .span) up (q .rows) R
+  top = rows-top (q .code) mark (q .kids) (q .span) up (q .rows) R rows-some
 
   -- the pair is selected: both ways are laid
-  takes-ways : Takes (treeRows (q .code) mark (q .span) rows) D m n → TwoWays w up P (q .span) (q .s .row) m (q .d .row) n
+  takes-ways : Takes (treeRows (q .code) mark (q .span) (q .rows)) D m n → TwoWays w up P (q .span) (q .s .row) m (q .d .row) n
   unfolding treeRows
-  takes-ways t = go (spread noRow 0 rows (shape (q .span) rows) none (R .laid) (R .hung) (rw (top .tree-is) (rw (top .tree-is) at t)))
+  takes-ways t = go (spread noRow 0 (q .rows) (shape (q .span) (q .rows)) none (R .laid) (R .hung) (rw (top .tree-is) (rw (top .tree-is) at t)))
     where
-      go : (h : ℕ → ℕ) × ((i : ℕ) → 0 ≤ i → i < rows → Suited i (h i) × Joined noRow 0 none h i) → TwoWays w up P (q .span) (q .s .row) m (q .d .row) n
-      go (h, f) =
-          (h, mark-on (tag (q .s .row) .src) (h (q .s .row)) m (q .s .here) (f (q .s .row) (omega arith) (q .s .inside) .0 .0),
-            mark-on (tag (q .d .row) .dst) (h (q .d .row)) n (q .d .here) (f (q .d .row) (omega arith) (q .d .inside) .0 .1),
-            spread-way h f (q .s .row) (q .s .inside), spread-way h f (q .d .row) (q .d .inside))
+      go : (h : ℕ → ℕ) × ((i : ℕ) → 0 ≤ i → i < (q .rows) → Suited i (h i) × Joined noRow 0 none h i) → TwoWays w up P (q .span) (q .s .row) m (q .d .row) n
+      go (h, f) = (
+        h,
+        mark-on (tag (q .s .row) .src) (h (q .s .row)) m (q .s .here) (f (q .s .row) (omega arith) (q .s .inside) .0 .0),
+        mark-on (tag (q .d .row) .dst) (h (q .d .row)) n (q .d .here) (f (q .d .row) (omega arith) (q .d .inside) .0 .1),
+        spread-way h f (q .s .row) (q .s .inside),
+        spread-way h f (q .d .row) (q .d .inside),
+      )
 
   -- ---------------------------------------------------------------- along laid ways the bits speak of the rest
   module _ (h : ℕ → ℕ) (hs : h (q .s .row) ≡ m) (hd : h (q .d .row) ≡ n) (ws : WayLaid w up P (q .span) h (q .s .row)) (wd : WayLaid w up P (q .span) h (q .d .row)) where
     -- a row with s or d in its part is on a way
-    on-way : (i : ℕ) (k : Forest ℕ) → i + getD (q .span) i 0 ≤ rows → 1 ≤ getD (q .span) i 0 → Holds (q .span) (suc i) (i + getD (q .span) i 0) k
+    on-way : (i : ℕ) (k : Forest ℕ) → i + getD (q .span) i 0 ≤ (q .rows) → 1 ≤ getD (q .span) i 0 → Holds (q .span) (suc i) (i + getD (q .span) i 0) k
         → eitherIn (tag i) (mapT tag k) ≡ true → Placed w up P h i
     on-way i k l z hk t = go (inTree (λ a. a .src) (tag i) (mapT tag k)) refl t
       where
-        part : (p : Tag → Bool) → inTree p (tag i) (mapT tag k) ≡ true → (S : Single (λ u. p (tag u)) rows) → WayLaid w up P (q .span) h (S .row) → Placed w up P h i
+        part : (p : Tag → Bool) → inTree p (tag i) (mapT tag k) ≡ true → (S : Single (λ u. p (tag u)) (q .rows)) → WayLaid w up P (q .span) h (S .row) → Placed w up P h i
         part p e S f =
             let (j, a, b, y) = in-row p tag (q .span) i (i + getD (q .span) i 0) k z hk e in
             let r : j ≡ S .row = S .only j (omega arith) y in
@@ -171,21 +177,22 @@ module _ (w mark up P : List ℕ) (rows : ℕ) (q : Asked w mark up P rows) (m n
         go true e y = part (λ a. a .src) e (q .s) ws
         go false e y = part (λ a. a .dst) y (q .d) wd
 
-    mark-lies : (p : ℕ → Bool) (S : Single p rows) (x : ℕ) → h (S .row) ≡ x → (i : ℕ) → i < rows → MarkOn (p i) (h i) x
+    mark-lies : (p : ℕ → Bool) (S : Single p (q .rows)) (x : ℕ) → h (S .row) ≡ x → (i : ℕ) → i < (q .rows) → MarkOn (p i) (h i) x
     mark-lies p S x e i l = go (p i) refl
       where
         go : (b : Bool) → p i ≡ b → MarkOn b (h i) x
         go true y = let z = S .only i l y in rw z e
         go false y = tt
 
-    gather : (p c e : ℕ) (F : Forest ℕ) (v : Option ℕ) → Holds (q .span) c e F → Hung up p F → e ≤ rows
+    gather : (p c e : ℕ) (F : Forest ℕ) (v : Option ℕ) → Holds (q .span) c e F → Hung up p F → e ≤ (q .rows)
         → ((i : ℕ) → getD up i 0 ≡ p → c ≤ i → i < e → Placed w up P h i → Under D v (h i)) → Ways D m n (mapT tag F) v
     unfolding mapT
     gather p c e bare v held hung le under = tt
     gather p c e (tree i k r) v held hung le under =
-        let s = size-holds (q .span) (suc i + size k) e r (held .3) in
-        (only (eitherIn (tag i) (mapT tag k)) refl (omega arith) (gather i (suc i) (suc i + size k) k (some (h i)) (held .2) (hung .1) (omega arith) below-i),
-          gather p (suc i + size k) e r v (held .3) (hung .2) le (λ j a b d pl. under j a (omega (arith, held .0)) d pl))
+        let s = size-holds (q .span) (suc i + size k) e r (held .3) in (
+          only (eitherIn (tag i) (mapT tag k)) refl (omega arith) (gather i (suc i) (suc i + size k) k (some (h i)) (held .2) (hung .1) (omega arith) below-i),
+          gather p (suc i + size k) e r v (held .3) (hung .2) le (λ j a b d pl. under j a (omega (arith, held .0)) d pl),
+        )
       where
         below-i : (j : ℕ) → getD up j 0 ≡ i → suc i ≤ j → j < suc i + size k → Placed w up P h j → Child D (h i) (h j)
         below-i j a b d pl = let y = pl .edge (omega arith) in child-doc P (q .labels) G (h i) (h j) .1 (y .0, pl .inside, y .1 ∙ ap h a)
@@ -197,21 +204,25 @@ module _ (w mark up P : List ℕ) (rows : ℕ) (q : Asked w mark up P rows) (m n
             let z : i + getD (q .span) i 0 ≡ suc i + size k = omega (arith, held .1) in
             let pl = on-way i k (omega (arith, le)) (omega (arith, held .1)) (rw z (held .2)) t in
             let y = bit-lays i (h i) (omega arith) (pl .inside) .0 (pl .bit) in
-            let o : below (q .span) i ≡ k = rw (← held .0) (holds-first (q .span) c e i k r held .0) in
-            (h i, under i (hung .0) (omega (arith, held .0)) (omega arith) pl,
-              (y .1, mark-lies (λ u. tag u .src) (q .s) m hs i (omega arith), mark-lies (λ u. tag u .dst) (q .d) n hd i (omega arith)), rw o at (y .2), ways)
+            let o : below (q .span) i ≡ k = rw (← held .0) (holds-first (q .span) c e i k r held .0) in (
+              h i,
+              under i (hung .0) (omega (arith, held .0)) (omega arith) pl,
+              (y .1, mark-lies (λ u. tag u .src) (q .s) m hs i (omega arith), mark-lies (λ u. tag u .dst) (q .d) n hd i (omega arith)),
+              rw o at (y .2),
+              ways,
+            )
 
   -- both ways are laid: the pair is selected
-  ways-takes : TwoWays w up P (q .span) (q .s .row) m (q .d .row) n → Takes (treeRows (q .code) mark (q .span) rows) D m n
+  ways-takes : TwoWays w up P (q .span) (q .s .row) m (q .d .row) n → Takes (treeRows (q .code) mark (q .span) (q .rows)) D m n
   unfolding treeRows
   ways-takes (h, hs, hd, ws, wd) =
       let few = q .s .inside in
       let pl = ws 0 (omega arith) (rw (top .span-all) (omega arith)) in
       let y = bit-lays 0 (h 0) rows-some (pl .inside) .0 (pl .bit) in
-      let ways = gather h hs hd ws wd noRow 0 rows (shape (q .span) rows) none (R .laid) (R .hung) (omega arith) (λ i _ _ _ p. in-doc P (q .labels) G (h i) .1 (p .inside)) in
+      let ways = gather h hs hd ws wd noRow 0 (q .rows) (shape (q .span) (q .rows)) none (R .laid) (R .hung) (omega arith) (λ i _ _ _ p. in-doc P (q .labels) G (h i) .1 (p .inside)) in
       rw (top .tree-is)
       (lays-ways D m n (tree (tag 0) (mapT tag (below (q .span) 0)) bare) none .1 (((h 0, y .0, y .1, y .2), tt), rw (top .tree-is) at ways))
 
   -- "The pair's answer is the conjunction of the bits of the nodes from s up to the top and from d up to the top, each at its only possible place"
-  pub takes-two-ways : Takes (treeRows (q .code) mark (q .span) rows) D m n ↔ TwoWays w up P (q .span) (q .s .row) m (q .d .row) n
+  pub takes-two-ways : Takes (treeRows (q .code) mark (q .span) (q .rows)) D m n ↔ TwoWays w up P (q .span) (q .s .row) m (q .d .row) n
   takes-two-ways = (takes-ways, ways-takes)

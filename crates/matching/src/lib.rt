@@ -7,10 +7,12 @@ ghost use Prim.Native.Nat.{ℕ, _+_, _*_, _≤_, _<_};
 ghost use lib.ListN.{length, getD};
 ghost use lib.Dec.{leb};
 ghost use Rattle.meaning.specs.Number.{largestLabel};
+ghost use Rattle.meaning.specs.Tree.{Takes};
 ghost use Rattle.meaning.specs.Matching.{parentOk, goodTable, docOf, bitAt, MatchTable, tableBytes};
 ghost use Rattle.bits.specs.Bits.{bitOf};
 ghost use Rattle.rows.specs.Rows.{treeRows};
 ghost use Rattle.matching.specs.Table.{Suits, Parents, FromByte, ParentOf, Added, RowIs, RowClear, Query, Lies, Ready};
+ghost use Rattle.matching.specs.Pair.{Bears, FirstRow, Asked, OneWay};
 
 // Whether node x may have this parent number and this label.
 fn good_row(x: usize, parent: u32, label: u32) -> bool
@@ -97,7 +99,7 @@ fn mark_parent(b: u8, x: usize, parents: &[u32], has: &mut [u8])
     ensures { λ _. ⌜ Added (now (has .entry)) (λ v. (bitOf b 0 ≡ true) × (getD (now (parents .entry)) x 0 ≡ v)) (now (has .exit)) ⌝ }
 {
     if b & 1 == 1 {
-        let p = parents[x] as usize;
+        let p = parent_at(parents, x);
         bits::set_bit(has, 0, p);
         return;
     }
@@ -143,11 +145,20 @@ fn keep_parents(w: &mut [u8], u: usize, c: usize, parents: &[u32])
     bits::meet(w, u, &has);
 }
 
-fn span_at(span: &[u16], u: usize) -> usize
-    requires { ⌜ u < length (now span) ⌝ }
-    ensures { λ r. ⌜ r ≡ getD (now (span .entry)) u 0 ⌝ }
+// What stands at row u: its span, or its parent's row.
+fn link_at(t: &[u16], u: usize) -> usize
+    requires { ⌜ u < length (now t) ⌝ }
+    ensures { λ r. ⌜ r ≡ getD (now (t .entry)) u 0 ⌝ }
 {
-    span[u] as usize
+    t[u] as usize
+}
+
+// The parent number of node x.
+fn parent_at(parents: &[u32], x: usize) -> usize
+    requires { ⌜ x < length (now parents) ⌝ }
+    ensures { λ r. ⌜ r ≡ getD (now (parents .entry)) x 0 ⌝ }
+{
+    parents[x] as usize
 }
 
 // Fills row u, when the rows behind it are filled: the nodes whose label fits, less those that lack a child for some child of u.
@@ -165,14 +176,14 @@ fn match_row(
     ensures { λ _. ⌜ RowIs (now (w .entry)) u (Lies (now (code .entry)) (now (span .entry)) (now (parents .entry)) (now (labels .entry)) u) (now (w .exit)) ⌝ }
 {
     label_row(w, u, code[u], labels);
-    let end = u + span_at(span, u);
+    let end = u + link_at(span, u);
     let mut c = u + 1;
     while c < end {
         if bits::row_clear(w, u) {
             return;
         }
         keep_parents(w, u, c, parents);
-        c += span_at(span, c);
+        c += link_at(span, c);
     }
 }
 
@@ -194,4 +205,82 @@ pub fn match_table(
         u -= 1;
         match_row(workspace, code, span, n, u, parents, labels);
     }
+}
+
+// The first row that bears the mark: 1 for s, 2 for d.
+fn row_of(mark: &[u8], which: u8) -> usize
+    requires { ⌜ ((u : ℕ) × (u < length (now mark)) × Bears (now mark) which u) ⌝ }
+    ensures { λ r. ⌜ FirstRow (now (mark .entry)) which r ⌝ }
+{
+    let mut u: usize = 0;
+    while mark[u] & which == 0 {
+        u += 1;
+    }
+    u
+}
+
+// Whether row u may lie on node x and the row above it on x's parent: u's bit is set there, and x is not the root.
+fn can_climb(w: &[u8], u: usize, x: usize) -> bool
+    requires { ⌜ (u < 256) × (x < 1024) × (tableBytes ≤ length (now w)) ⌝ }
+    ensures { λ r. ⌜ (r ≡ true) ↔ ((0 < x) × (bitAt (now (w .entry)) u x ≡ true)) ⌝ }
+{
+    if x == 0 {
+        return false;
+    }
+    bits::test_bit(w, u, x)
+}
+
+// Whether the way from row u up to the top can be laid with u on x.
+fn climbs(w: &[u8], up: &[u16], parents: &[u32], u: usize, x: usize) -> bool
+    requires { ⌜ ((mark : List ℕ) × (q : Asked (now w) mark (now up) (now parents)) × (u < q .rows) × (x < length (now parents))) ⌝ }
+    ensures { λ r. ⌜ ((mark : List ℕ) (q : Asked (now (w .entry)) mark (now (up .entry)) (now (parents .entry))) → u < q .rows → (r ≡ true) ↔ OneWay (now (w .entry)) (now (up .entry)) (now (parents .entry)) (q .span) u x) ⌝ }
+{
+    let mut c = u;
+    let mut y = x;
+    while 0 < c {
+        if !can_climb(w, c, y) {
+            return false;
+        }
+        c = link_at(up, c);
+        y = parent_at(parents, y);
+    }
+    bits::test_bit(w, 0, y)
+}
+
+// Whether a query that is not empty selects (m, n), by its match table. From s on m and d on n the later row steps up, with its place, until
+// both ways meet: at one row the places must be the same, and from there one way leads to the top.
+pub fn pair_selected(
+    workspace: &[u8],
+    mark: &[u8],
+    up: &[u16],
+    parents: &[u32],
+    m: usize,
+    n: usize,
+) -> bool
+    requires { ⌜ Asked (now workspace) (now mark) (now up) (now parents) × (m < length (now parents)) × (n < length (now parents)) ⌝ }
+    ensures { λ r. ⌜ ((q : Asked (now (workspace .entry)) (now (mark .entry)) (now (up .entry)) (now (parents .entry))) → (r ≡ true) ↔ Takes (treeRows (q .code) (now (mark .entry)) (q .span) (q .rows)) (docOf (now (parents .entry)) (q .labels)) m n) ⌝ }
+{
+    let mut u = row_of(mark, 1);
+    let mut v = row_of(mark, 2);
+    let mut x = m;
+    let mut y = n;
+    while u != v {
+        if v < u {
+            if !can_climb(workspace, u, x) {
+                return false;
+            }
+            u = link_at(up, u);
+            x = parent_at(parents, x);
+            continue;
+        }
+        if !can_climb(workspace, v, y) {
+            return false;
+        }
+        v = link_at(up, v);
+        y = parent_at(parents, y);
+    }
+    if x != y {
+        return false;
+    }
+    climbs(workspace, up, parents, u, x)
 }

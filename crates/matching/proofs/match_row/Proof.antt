@@ -14,7 +14,7 @@ use Rattle.matching.proofs.match_row.Tie as tie
 use Rattle.bits.proofs.row_clear.Reads as row-clear-reads
 use Rattle.matching.proofs.keep_parents.Reads as keep-parents-reads
 use Rattle.matching.proofs.label_row.Reads as label-row-reads
-use Rattle.matching.proofs.span_at.Reads as span-at-reads
+use Rattle.matching.proofs.link_at.Reads as link-at-reads
 
 abbrev Inv-loop : tie.InvT-loop
 Inv-loop w₀ code span n u parents labels end c₀ w c = (u < c) × (end ≤ n) × OnlyRow w₀ u w × RowsFrom code span parents labels n (u + 1) w × Partly code span parents labels u c end w
@@ -33,11 +33,11 @@ label-row-requires c κs =
     let G = good-table _ _ (c .before .before .before .before .before .before .before .pre .table) in
     (omega (arith, c .before .before .before .before .before .before .before .pre .row, c .before .before .before .before .before .before .before .pre .query .few), omega (arith, c .before .before .before .before .before .before .before .pre .row, c .before .before .before .before .before .before .before .pre .query .few, c .before .before .before .before .before .before .before .pre .room), omega (arith, G .few, G .labels), c .before .before .before .before .before .before .before .pre .clear)
 
-span-at-requires : tie.Need-span-at-requires Inv-loop μ-loop
-span-at-requires c κs = omega (arith, c .before .before .before .before .before .before .before .before .before .before .pre .row, c .before .before .before .before .before .before .before .before .before .before .pre .query .spans)
+link-at-requires : tie.Need-link-at-requires Inv-loop μ-loop
+link-at-requires c κs = omega (arith, c .before .before .before .before .before .before .before .before .before .before .pre .row, c .before .before .before .before .before .before .before .before .before .before .pre .query .spans)
 
 add-end : tie.Need-add-end Inv-loop μ-loop
-add-end c = let o = row-opens _ _ (c .before .before .before .before .before .before .before .before .before .before .before .pre .query .laid) _ (c .before .before .before .before .before .before .before .before .before .before .before .pre .row) in omega (arith, c .span-at .ensures, o .inside, c .before .before .before .before .before .before .before .before .before .before .before .pre .query .few)
+add-end c = let o = row-opens _ _ (c .before .before .before .before .before .before .before .before .before .before .before .pre .query .laid) _ (c .before .before .before .before .before .before .before .before .before .before .before .pre .row) in omega (arith, c .link-at .ensures, o .inside, c .before .before .before .before .before .before .before .before .before .before .before .pre .query .few)
 
 add-c : tie.Need-add-c Inv-loop μ-loop
 add-c c = omega (arith, c .before .before .before .before .before .before .before .before .before .before .before .pre .row, c .before .before .before .before .before .before .before .before .before .before .before .pre .query .few)
@@ -46,10 +46,10 @@ loop-holds : tie.Need-loop-holds Inv-loop μ-loop
 loop-holds c =
     let o = row-opens _ _ (c .before .before .before .before .before .before .before .before .before .before .before .pre .query .laid) _ (c .before .before .before .before .before .before .before .before .before .before .before .pre .row) in (
       omega arith,
-      omega (arith, c .span-at .ensures, o .inside),
+      omega (arith, c .link-at .ensures, o .inside),
       only-refl _ _,
       rows-kept (c .before .before .before .before .before .before .before .before .before .before .before .args .code .now) (c .before .before .before .before .before .before .before .before .before .before .before .args .span .now) _ _ (c .before .before .before .before .before .before .before .before .before .before .before .pre .table) _ _ _ _ (c .before .before .before .label-row .ensures .only) (c .before .before .before .before .before .before .before .before .before .before .before .pre .behind),
-      rw (c .span-at .ensures) (partly-start _ _ _ _ (c .before .before .before .before .before .before .before .before .before .before .before .pre .table) _ _ (c .before .before .before .before .before .before .before .before .before .before .before .pre .query) (c .before .before .before .before .before .before .before .before .before .before .before .pre .row) _ _ (c .before .before .before .label-row .ensures)),
+      rw (c .link-at .ensures) (partly-start _ _ _ _ (c .before .before .before .before .before .before .before .before .before .before .before .pre .table) _ _ (c .before .before .before .before .before .before .before .before .before .before .before .pre .query) (c .before .before .before .before .before .before .before .before .before .before .before .pre .row) _ _ (c .before .before .before .label-row .ensures)),
     )
 
 row-clear-requires : tie.Need-row-clear-requires Inv-loop μ-loop
@@ -71,14 +71,14 @@ keep-parents-requires c κs =
       rows-inside (c .before .before .before .before .before .before .before .before .before .before .before .before .before .before .before .before .before .args .code .now) (c .before .before .before .before .before .before .before .before .before .before .before .before .before .before .before .before .before .args .span .now) _ _ (c .before .before .before .before .before .before .before .before .before .before .before .before .before .before .before .before .before .pre .table) _ _ _ (c .before .before .before .before .before .loop .inv .3) (c .before .before .before .before .before .loop .c) (omega (arith, c .before .before .before .before .before .loop .inv .0)) (omega (arith, c .before .before .before .before .before .loop .inv .1, c .before .before .before .before .loop-test .taken)),
     )
 
-span-at-requires-2 : tie.Need-span-at-requires-2 Inv-loop μ-loop
-span-at-requires-2 c κs = omega (arith, c .before .before .before .before .before .before .before .before .before .before .before .before .before .before .before .before .before .before .before .before .pre .query .spans, c .before .before .before .before .before .before .before .before .loop .inv .1, c .before .before .before .before .before .before .before .loop-test .taken)
+link-at-requires-2 : tie.Need-link-at-requires-2 Inv-loop μ-loop
+link-at-requires-2 c κs = omega (arith, c .before .before .before .before .before .before .before .before .before .before .before .before .before .before .before .before .before .before .before .before .pre .query .spans, c .before .before .before .before .before .before .before .before .loop .inv .1, c .before .before .before .before .before .before .before .loop-test .taken)
 
 add-c-2 : tie.Need-add-c-2 Inv-loop μ-loop
-add-c-2 c = let o = partly-next _ _ _ _ _ _ _ _ (c .before .before .before .before .before .before .before .before .loop-test .taken) (c .before .before .before .before .before .before .before .before .before .loop .inv .4) in omega (arith, c .span-at2 .ensures, o .1, c .before .before .before .before .before .before .before .before .before .loop .inv .1, c .before .before .before .before .before .before .before .before .before .before .before .before .before .before .before .before .before .before .before .before .before .pre .query .few)
+add-c-2 c = let o = partly-next _ _ _ _ _ _ _ _ (c .before .before .before .before .before .before .before .before .loop-test .taken) (c .before .before .before .before .before .before .before .before .before .loop .inv .4) in omega (arith, c .link-at2 .ensures, o .1, c .before .before .before .before .before .before .before .before .before .loop .inv .1, c .before .before .before .before .before .before .before .before .before .before .before .before .before .before .before .before .before .before .before .before .before .pre .query .few)
 
 loop-less : tie.Need-loop-less Inv-loop μ-loop
-loop-less c = let o = partly-next _ _ _ _ _ _ _ _ (c .before .before .before .before .before .before .before .before .loop-test .taken) (c .before .before .before .before .before .before .before .before .before .loop .inv .4) in omega (arith, c .span-at2 .ensures, o .0, c .before .before .before .before .before .before .before .before .loop-test .taken)
+loop-less c = let o = partly-next _ _ _ _ _ _ _ _ (c .before .before .before .before .before .before .before .before .loop-test .taken) (c .before .before .before .before .before .before .before .before .before .loop .inv .4) in omega (arith, c .link-at2 .ensures, o .0, c .before .before .before .before .before .before .before .before .loop-test .taken)
 
 loop-again : tie.Need-loop-again Inv-loop μ-loop
 loop-again c =
@@ -87,7 +87,7 @@ loop-again c =
       c .before .before .before .before .before .before .before .before .before .loop .inv .1,
       only-then _ _ _ _ (c .before .before .before .before .before .before .before .before .before .loop .inv .2) (c .before .before .before .keep-parents .ensures .only),
       rows-kept (c .before .before .before .before .before .before .before .before .before .before .before .before .before .before .before .before .before .before .before .before .before .args .code .now) (c .before .before .before .before .before .before .before .before .before .before .before .before .before .before .before .before .before .before .before .before .before .args .span .now) _ _ (c .before .before .before .before .before .before .before .before .before .before .before .before .before .before .before .before .before .before .before .before .before .pre .table) _ _ _ _ (c .before .before .before .keep-parents .ensures .only) (c .before .before .before .before .before .before .before .before .before .loop .inv .3),
-      rw (c .span-at2 .ensures) (partly-turn _ _ _ _ (c .before .before .before .before .before .before .before .before .before .before .before .before .before .before .before .before .before .before .before .before .before .pre .table) _ _ _ (c .before .before .before .before .before .before .before .before .loop-test .taken) _ _ (λ x lx. c .before .before .before .before .before .before .before .before .before .loop .inv .3 (c .before .before .before .before .before .before .before .before .before .loop .c) x (omega (arith, c .before .before .before .before .before .before .before .before .before .loop .inv .0)) (omega (arith, c .before .before .before .before .before .before .before .before .before .loop .inv .1, c .before .before .before .before .before .before .before .before .loop-test .taken)) lx) (c .before .before .before .keep-parents .ensures) (c .before .before .before .before .before .before .before .before .before .loop .inv .4)),
+      rw (c .link-at2 .ensures) (partly-turn _ _ _ _ (c .before .before .before .before .before .before .before .before .before .before .before .before .before .before .before .before .before .before .before .before .before .pre .table) _ _ _ (c .before .before .before .before .before .before .before .before .loop-test .taken) _ _ (λ x lx. c .before .before .before .before .before .before .before .before .before .loop .inv .3 (c .before .before .before .before .before .before .before .before .before .loop .c) x (omega (arith, c .before .before .before .before .before .before .before .before .before .loop .inv .0)) (omega (arith, c .before .before .before .before .before .before .before .before .before .loop .inv .1, c .before .before .before .before .before .before .before .before .loop-test .taken)) lx) (c .before .before .before .keep-parents .ensures) (c .before .before .before .before .before .before .before .before .before .loop .inv .4)),
     )
 
 same-length-2 : tie.Need-same-length-2 Inv-loop μ-loop
@@ -105,7 +105,7 @@ match-row-spec =
     mul-label-row
     shared-slice-read-label-row
     label-row-requires
-    span-at-requires
+    link-at-requires
     add-end
     add-c
     loop-holds
@@ -113,7 +113,7 @@ match-row-spec =
     same-length
     returns
     keep-parents-requires
-    span-at-requires-2
+    link-at-requires-2
     add-c-2
     loop-less
     loop-again

@@ -1,7 +1,7 @@
 use native.Mathlib.Omega.{arith}
 use borrow.Author.Needs.{needs}
-use Rattle.matching.proofs.span_at.Statement.{statement}
-use Rattle.matching.proofs.span_at.Tie as tie
+use Rattle.matching.proofs.link_at.Statement.{statement}
+use Rattle.matching.proofs.link_at.Tie as tie
 
 mul-result : tie.Need-mul-result
 mul-result c = search needs
@@ -15,5 +15,5 @@ cast-result c = omega (arith, c .shared-slice-known .given (c .before .args .u))
 returns : tie.Need-returns
 returns c = search needs
 
-pub span-at-spec : {M : Type 1} → statement M
-span-at-spec = tie.close (tie.spec mul-result shared-slice-read-result cast-result returns)
+pub link-at-spec : {M : Type 1} → statement M
+link-at-spec = tie.close (tie.spec mul-result shared-slice-read-result cast-result returns)
