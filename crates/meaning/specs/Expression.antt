@@ -1,7 +1,7 @@
 -- Path+ expressions and the pairs that each selects on a document (paper, definition 3.2 and figure 4; 01, the table of signs).
 use mathlib.Core.Path.{_≡_}
 use mathlib.Core.Logic.{_↔_}
-use Prim.Native.Nat.{ℕ, suc, _+_}
+use Prim.Native.Nat.{ℕ, _+_}
 use Rattle.meaning.specs.Document.{Doc, In, Child, labelOf, Document}
 
 -- the ten signs

@@ -2,12 +2,10 @@
 use mathlib.Core.Path.{_≡_}
 use mathlib.Core.Logic.{_⊎_, inl, inr}
 use mathlib.Core.Bool.{Bool, true, false}
-use mathlib.Core.Option.{Option, none, some}
-use Prim.Native.Nat.{ℕ}
 use native.Mathlib.Decide.{ℕ-discrete}
 use Rattle.meaning.specs.Basics.{pick, decBoth}
-use Rattle.meaning.specs.TreeQuery.{Lab, any, lab, Query}
-use Rattle.meaning.specs.Tree.{Forest, bare, tree, Tag, Any, plainTree}
+use Rattle.meaning.specs.TreeQuery.{Lab, any, lab}
+use Rattle.meaning.specs.Tree.{Forest, bare, tree, Tag, Any}
 
 -- "u's label is a wildcard or equals v's"
 abbrev pub LabLe : Lab → Lab → Type 0

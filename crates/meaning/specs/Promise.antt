@@ -1,14 +1,13 @@
 -- What each public call owes: its result, its place or length, and every byte of every lent buffer.
 -- Each promise is one definition over all that is handed in; that no second answer fits is proved in theory (Promise).
 use mathlib.Core.Path.{_≡_}
-use mathlib.Core.Bool.{Bool, true, false, _&&_, cond}
+use mathlib.Core.Bool.{Bool, true, _&&_, cond}
 use mathlib.Core.Logic.{_↔_}
 use mathlib.Core.Option.{Option}
-use mathlib.Core.List.{List, [], _∷_, _++_}
-use Prim.Native.Nat.{ℕ, _<_}
+use mathlib.Core.List.{List, _++_}
+use Prim.Native.Nat.{ℕ}
 use lib.ListN.{length, drop}
 use lib.Dec.{leb, ltb}
-use Rattle.meaning.specs.Document.{Doc}
 use Rattle.meaning.specs.Expression.{Expr, pairs}
 use Rattle.meaning.specs.TreeQuery.{Query}
 use Rattle.meaning.specs.Gluing.{plain}

@@ -2,7 +2,7 @@
 -- For each row there are five numbers: the label code and the mark of its record, the number of its children, its span (the rows that it and
 -- all below it take) and the row of its parent. The first child of row u is row u + 1, the next brother of row c is row c + span c.
 use mathlib.Core.Path.{_≡_}
-use mathlib.Core.Bool.{Bool, cond}
+use mathlib.Core.Bool.{cond}
 use mathlib.Core.List.{List}
 use Prim.Native.Nat.{ℕ, zero, suc, _+_, _%_, _≤_, _<_}
 use lib.ListN.{length, getD}

@@ -8,7 +8,7 @@ use Rattle.meaning.specs.Folding.{decLab, decMark, decTag, decAny, decFolds, de
 use Rattle.meaning.specs.Number.{groups, readNumber}
 use Rattle.meaning.specs.Image.{decL, minimalImage}
 use Rattle.meaning.specs.Normal.{normalForm}
-use Rattle.meaning.specs.Word.{Outcome, answered, andThen, signOf, isStep, takes, atEnd, run, readWord}
+use Rattle.meaning.specs.Word.{answered, andThen, signOf, isStep, takes, atEnd, run, readWord}
 
 -- a word, its minimal image and its normal form
 pub record Case : Type 0 where

@@ -1,7 +1,7 @@
 -- What the pair question runs: a pair is selected exactly when the nodes on the ways from s and d up to the top are laid consistently,
 -- each on the parent of the place of the node below it, and each of their bits is set ("query node u with all below it can be laid with u
 -- on v, marks ignored"). The nodes off the ways need no further look: the bits speak of them.
-use mathlib.Core.Path.{_≡_, refl, sym, ap, subst, _∙_}
+use mathlib.Core.Path.{_≡_, refl, sym, subst}
 use mathlib.Core.Logic.{_↔_}
 use mathlib.Core.Bool.{Bool, true, false, _||_}
 use mathlib.Core.Option.{Option, none, some}

@@ -4,7 +4,7 @@ use mathlib.Core.Logic.{_↔_}
 use mathlib.Core.Bool.{Bool, true, false}
 use mathlib.Core.Option.{Option}
 use mathlib.Core.List.{List}
-use Prim.Native.Nat.{ℕ, zero, suc, _+_, _*_, _/_, _%_, _^_, _≤_, _<_}
+use Prim.Native.Nat.{ℕ, zero, suc, _+_, _*_, _/_, _%_, _^_, _<_}
 use native.Mathlib.Decide.{decLt}
 use native.Mathlib.Omega.{arith}
 use lib.ListN.{length, getD}
@@ -17,7 +17,7 @@ use Rattle.meaning.specs.TreeQuery.{Query}
 use Rattle.meaning.specs.Tree.{Forest, Tag}
 use Rattle.meaning.specs.Word.{Outcome, refused, answered}
 use Rattle.meaning.specs.Matching.{bitAt, MatchTable, tableBytes}
-use Rattle.meaning.specs.Promise.{Writes, Question, asked, Told, Replies, Selected}
+use Rattle.meaning.specs.Promise.{Writes, Question, asked, Replies, Selected}
 
 -- ------------------------------------------------------------------ writers
 pub one-writing : (form : Option Query → List ℕ) (word room : List ℕ) (r r′ : Outcome ℕ) (a a′ : List ℕ)

@@ -1,0 +1,126 @@
+-- The final statements, each under the sentence that it proves, over the definitions of `meaning`: for words and expressions of any length, tree
+-- queries of any size, documents of any size and labels. The proofs stand in the files that the `use` lines name.
+use mathlib.Core.Path.{_≡_}
+use mathlib.Core.Logic.{_↔_}
+use mathlib.Core.Bool.{Bool, true}
+use mathlib.Core.Option.{Option, none, some}
+use mathlib.Core.List.{List}
+use Prim.Native.Nat.{ℕ, _-_, _≤_}
+use lib.ListN.{length}
+use Rattle.meaning.specs.Document.{Doc, Document}
+use Rattle.meaning.specs.Expression.{Expr, pairs, steps, Simple, Agree}
+use Rattle.meaning.specs.TreeQuery.{Query, TreeQuery, Selects, SelectsO, nodes}
+use Rattle.meaning.specs.Gluing.{plain}
+use Rattle.meaning.specs.Tree.{Forest, bare, tree, Tag, Takes, treeOf, plainTree, size}
+use Rattle.meaning.specs.Folding.{Reduced, Sheds, minimal}
+use Rattle.meaning.specs.Image.{image, ordered, plainImage, minimalImage, minimalTree}
+use Rattle.meaning.specs.Normal.{eitherIn, normalOf, normalForm}
+use Rattle.meaning.specs.Word.{Outcome, answered, readWord}
+use Rattle.meaning.specs.Matching.{LaysAt}
+use Rattle.meaning.specs.Promise.{Writes, Question, Selected}
+use Rattle.theory.proofs.Cases as Cases
+use Rattle.theory.proofs.Document as Documents
+use Rattle.theory.proofs.Same as Same
+use Rattle.theory.proofs.Least as Least
+use Rattle.theory.proofs.Factors.{normal-simple}
+use Rattle.theory.proofs.Again as Again
+use Rattle.theory.proofs.Removal as Removal
+use Rattle.theory.proofs.Tables.{tableOf}
+use Rattle.theory.proofs.Bits as Bits
+use Rattle.theory.proofs.Pair as Pair
+use Rattle.theory.proofs.Promise as Promise
+
+-- ------------------------------------------------------------------ documents and worked cases
+-- "On every finite labelled tree": each tree, built from a label and the trees below it, has a document table with its nodes, labels and children.
+pub every-tree : (a : ℕ) (k : Forest ℕ) → (D : Doc) × Document D × Documents.Stands (tree a k bare) D
+every-tree = Documents.tree-document
+
+-- "P1 to P12 are proved as a single table under a single theorem."
+pub worked-cases : Cases.Each Cases.Right Cases.cases
+worked-cases = Cases.table
+
+-- ------------------------------------------------------------------ demand 2: same pairs
+-- "the query as written, its tree query ..
+pub same-plain : (e : Expr) (D : Doc) (m n : ℕ) → pairs e D m n ↔ SelectsO (plain e) D m n
+same-plain = Same.same-plain
+
+-- .. its minimal tree query ..
+pub same-minimal : (e : Expr) (D : Doc) (m n : ℕ) → pairs e D m n ↔ Takes (minimalTree (plain e)) D m n
+same-minimal = Same.same-minimal
+
+-- (which is a tree query in the paper's sense: a table that reads as that tree and selects those pairs)
+pub minimal-query : (e : Expr) (Q : Query) → plain e ≡ some Q
+    → (R : Query) × TreeQuery R × (treeOf R ≡ minimalTree (plain e)) × ((D : Doc) (m n : ℕ) → pairs e D m n ↔ Selects R D m n)
+minimal-query = Same.minimal-query
+
+-- .. and its normal form select the same pairs"
+pub same-normal : (e : Expr) (D : Doc) (m n : ℕ) → pairs e D m n ↔ pairs (normalOf (plain e)) D m n
+same-normal = Same.same-normal
+
+-- "'Empty' is given exactly when no document yields a pair."
+pub empty-exactly : (e : Expr) → (plain e ≡ none) ↔ ((D : Doc) → Document D → (m n : ℕ) → pairs e D m n → ⊥)
+empty-exactly = Same.empty-exactly
+
+-- ------------------------------------------------------------------ demand 3: smallest
+-- "No tree query of the same meaning has fewer nodes than the minimal one"
+pub smallest-tree : (e : Expr) (Q : Query) → TreeQuery Q → Agree (pairs e) (Selects Q) → size (minimalTree (plain e)) ≤ nodes Q
+smallest-tree = Least.smallest-tree
+
+-- two tree queries of one meaning have one minimal tree, brothers in image order, and so one image
+pub one-minimal-tree : (P Q : Query) → TreeQuery P → TreeQuery Q → Agree (Selects P) (Selects Q) → ordered (minimal (treeOf P)) ≡ ordered (minimal (treeOf Q))
+one-minimal-tree = Least.one-query
+
+-- whichever foldable brother is taken first, the end has the same image; and folding comes to an end
+pub any-order : (f g : Forest Tag) → Sheds f g → Reduced g → (image g ≡ image (minimal f)) × (ordered g ≡ ordered (minimal f))
+any-order = Least.any-order
+
+pub folding-ends : (f : Forest Tag) → (g : Forest Tag) × Sheds f g × Reduced g
+folding-ends = Removal.sheds-to-end
+
+-- "no Path+ expression of any length with the same meaning has fewer parent and child steps than the normal form ..
+pub fewest-steps : (e f : Expr) → Agree (pairs e) (pairs f) → steps (normalOf (plain e)) ≤ steps f
+fewest-steps = Least.fewest-steps
+
+-- .. which has no intersection and no inverse"
+pub no-intersection-no-inverse : (e : Expr) → Simple (normalOf (plain e))
+no-intersection-no-inverse e = normal-simple (minimalTree (plain e))
+
+-- "its steps are the minimal node count less one (none for empty)"
+pub steps-nodes : (e : Expr) → steps (normalOf (plain e)) ≡ size (minimalTree (plain e)) - 1
+steps-nodes = Least.steps-nodes
+
+-- ------------------------------------------------------------------ demand 2: read in again
+-- "The normal form has at most 2,048 bytes .. and it is always accepted as a word."
+pub form-accepted : (word : List ℕ) (e : Expr) → readWord word ≡ answered e
+    → (length (normalForm (plain e)) ≤ 2048) × (readWord (normalForm (plain e)) ≡ answered (normalOf (plain e)))
+form-accepted = Again.form-accepted
+
+-- "the normal form read in again gives the same minimal tree", and the same normal form
+pub same-again : (e : Expr) → (minimalTree (plain (normalOf (plain e))) ≡ minimalTree (plain e)) × (normalForm (plain (normalOf (plain e))) ≡ normalForm (plain e))
+same-again = Again.same-again
+
+-- images have "at most 1,538 bytes", and the plain tree of an accepted word has at most 256 nodes
+pub images-short : (word : List ℕ) (e : Expr) → readWord word ≡ answered e → (length (plainImage (plain e)) ≤ 1538) × (length (minimalImage (plain e)) ≤ 1538)
+images-short = Again.images-short
+
+pub plain-nodes : (word : List ℕ) (e : Expr) → readWord word ≡ answered e → size (plainTree (plain e)) ≤ 256
+plain-nodes word e r = (Again.plain-within word e r) .few
+
+-- ------------------------------------------------------------------ the pair question
+-- "query node u with all below it can be laid with u on document node v, marks ignored": the recursion agrees with containment mappings of that part
+pub bit-mapping : (D : Doc) (a : Tag) (k : Forest Tag) (v : ℕ)
+    → TreeQuery (tableOf (Bits.part a k)) × (LaysAt D a k v ↔ Selects (tableOf (Bits.part a k)) D v v)
+bit-mapping = Bits.bit-mapping
+
+-- a pair is selected exactly when the nodes on the ways from s and d up to the top are laid consistently and each of their bits is set
+pub pair-by-bits : (D : Doc) (m n : ℕ) (a : Tag) (k : Forest Tag) → eitherIn a k ≡ true → Takes (tree a k bare) D m n ↔ Pair.Ways D m n (tree a k bare) none
+pair-by-bits = Pair.takes-ways
+
+-- ------------------------------------------------------------------ "That no second answer fits"
+pub one-writing : (form : Option Query → List ℕ) (word room : List ℕ) (r r′ : Outcome ℕ) (a a′ : List ℕ)
+    → Writes form word room r a → Writes form word room r′ a′ → (r ≡ r′) × (a ≡ a′)
+one-writing = Promise.one-writing
+
+pub one-reply : (q : Question) (r r′ : Outcome Bool) (a a′ : List ℕ) → Promise.Bytes a → Promise.Bytes a′
+    → Selected q r a → Selected q r′ a′ → (r ≡ r′) × (a ≡ a′)
+one-reply = Promise.one-reply

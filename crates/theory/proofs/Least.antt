@@ -1,0 +1,113 @@
+-- Demand 3: no tree query of the same meaning has fewer nodes than the minimal one, no Path+ expression of any length with the same meaning has
+-- fewer parent and child steps than the normal form, and one meaning has one minimal tree, one image and one normal form.
+use mathlib.Core.Path.{_≡_, refl, sym, ap, subst}
+use mathlib.Core.Option.{Option, none, some}
+use Prim.Native.Nat.{ℕ, suc, _-_, _≤_}
+use native.Mathlib.Omega.{arith}
+use Rattle.meaning.specs.Expression.{Expr, pairs, steps, Agree}
+use Rattle.meaning.specs.TreeQuery.{Query, TreeQuery, Selects, nodes}
+use Rattle.meaning.specs.Gluing.{plain}
+use Rattle.meaning.specs.Tree.{Forest, Tag, treeOf, size}
+use Rattle.meaning.specs.Folding.{Reduced, Sheds, minimal}
+use Rattle.meaning.specs.Image.{image, ordered, minimalTree}
+use Rattle.meaning.specs.Normal.{normal, normalOf}
+use Rattle.theory.proofs.Plain.{Means, AtMost, plain-means, few-nodes}
+use Rattle.theory.proofs.Bridge.{tree-means}
+use Rattle.theory.proofs.Weigh.{size-tree}
+use Rattle.theory.proofs.Folding.{folds-trans, Equal, equal-trans}
+use Rattle.theory.proofs.Minimal.{minimal-equal, minimal-to, minimal-from, minimal-reduced}
+use Rattle.theory.proofs.Unique.{minimal-same, sheds-to-minimal-same, smallest}
+use Rattle.theory.proofs.Order.{ordered-size}
+use Rattle.theory.proofs.Records.{same-image, same-ordered}
+use Rattle.theory.proofs.Count.{count, src, dst}
+use Rattle.theory.proofs.Marks.{query-tree}
+use Rattle.theory.proofs.Canon.{agree-equal}
+use Rattle.theory.proofs.Steps.{normal-steps}
+use Rattle.theory.proofs.Same.{least-tree, empty-exactly}
+
+-- ------------------------------------------------------------------ tree queries of one meaning
+-- their trees fold onto each other
+agree-trees : (P Q : Query) → TreeQuery P → TreeQuery Q → Agree (Selects P) (Selects Q) → Equal (treeOf P) (treeOf Q)
+agree-trees P Q p q ag = agree-equal (treeOf P) (treeOf Q) (query-tree P p) (query-tree Q q) λ D g m n. (
+  λ t. (tree-means Q q D m n) .0 ((ag D g m n) .0 ((tree-means P p D m n) .1 t)),
+  λ t. (tree-means P p D m n) .0 ((ag D g m n) .1 ((tree-means Q q D m n) .1 t)),
+)
+
+-- "No tree query of the same meaning has fewer nodes than the minimal one"
+pub smallest-query : (P Q : Query) → TreeQuery P → TreeQuery Q → Agree (Selects P) (Selects Q) → size (ordered (minimal (treeOf P))) ≤ nodes Q
+smallest-query P Q p q ag =
+    let w = agree-trees P Q p q ag in
+    let s = smallest (minimal (treeOf P)) (treeOf Q) (minimal-reduced (treeOf P))
+    (folds-trans (minimal (treeOf P)) (treeOf P) (treeOf Q) (minimal-from (treeOf P)) (w .0))
+    (folds-trans (treeOf Q) (treeOf P) (minimal (treeOf P)) (w .1) (minimal-to (treeOf P))) in
+    let o = ordered-size (minimal (treeOf P)) in
+    let z = size-tree Q q in omega arith
+
+-- one meaning, one minimal tree
+pub one-query : (P Q : Query) → TreeQuery P → TreeQuery Q → Agree (Selects P) (Selects Q) → ordered (minimal (treeOf P)) ≡ ordered (minimal (treeOf Q))
+one-query P Q p q ag =
+    sym (same-ordered (minimal (treeOf Q)) (minimal (treeOf P))
+    (minimal-same (treeOf P) (minimal (treeOf Q)) (minimal-reduced (treeOf Q))
+    (equal-trans (treeOf P) (treeOf Q) (minimal (treeOf Q)) (agree-trees P Q p q ag) (minimal-equal (treeOf Q)))))
+
+-- whichever foldable brother is taken first, the end has the same image, and is the minimal tree once its brothers are in image order
+pub any-order : (f g : Forest Tag) → Sheds f g → Reduced g → (image g ≡ image (minimal f)) × (ordered g ≡ ordered (minimal f))
+any-order f g s r = let z = sheds-to-minimal-same f g s r in (same-image g (minimal f) z, same-ordered g (minimal f) z)
+
+-- ------------------------------------------------------------------ expressions of one meaning
+-- two expressions of one meaning are both empty, or both have tree queries of one meaning
+module _ (e f : Expr) (ag : Agree (pairs e) (pairs f)) where
+  no-empty : (Q : Query) → Means (pairs e) none → plain f ≡ some Q → ⊥
+  no-empty Q w eq =
+      let z : plain f ≡ none = (empty-exactly f) .1 (λ D g m n x. w D m n ((ag D g m n) .1 x)) in
+      let y : _≡_ {A = ℕ} 0 1 = cc in omega arith
+
+  agree-queries : (P Q : Query) → Means (pairs e) (some P) → Means (pairs f) (some Q) → Agree (Selects P) (Selects Q)
+  agree-queries P Q (p, w) (q, x) D g m n =
+      (λ s. (x D m n) .0 ((ag D g m n) .0 ((w D m n) .1 s)), λ s. (w D m n) .0 ((ag D g m n) .1 ((x D m n) .1 s)))
+
+turned : (e f : Expr) → Agree (pairs e) (pairs f) → Agree (pairs f) (pairs e)
+turned e f ag D g m n = ((ag D g m n) .1, (ag D g m n) .0)
+
+pub one-tree : (e f : Expr) → Agree (pairs e) (pairs f) → minimalTree (plain e) ≡ minimalTree (plain f)
+one-tree e f ag = go (plain e) (plain f) refl refl (plain-means e) (plain-means f)
+  where
+    go : (o r : Option Query) → plain e ≡ o → plain f ≡ r → Means (pairs e) o → Means (pairs f) r → minimalTree o ≡ minimalTree r
+    go none none eo er w x = refl
+    go none (some Q) eo er w x = absurd (no-empty e f ag Q w er)
+    go (some P) none eo er w x = absurd (no-empty f e (turned e f ag) P x eo)
+    go (some P) (some Q) eo er w x = one-query P Q (w .0) (x .0) (agree-queries e f ag P Q w x)
+
+-- the same for one expression and any tree query of its meaning
+pub smallest-tree : (e : Expr) (Q : Query) → TreeQuery Q → Agree (pairs e) (Selects Q) → size (minimalTree (plain e)) ≤ nodes Q
+unfolding minimal
+smallest-tree e Q q ag = go (plain e) (plain-means e)
+  where
+    go : (o : Option Query) → Means (pairs e) o → size (minimalTree o) ≤ nodes Q
+    go none w = omega arith
+    go (some P) (p, w) = smallest-query P Q p q λ D g m n. (λ s. (ag D g m n) .0 ((w D m n) .1 s), λ s. (w D m n) .0 ((ag D g m n) .1 s))
+
+-- ------------------------------------------------------------------ steps
+-- "its steps are the minimal node count less one (none for empty)"
+pub steps-nodes : (e : Expr) → steps (normalOf (plain e)) ≡ size (minimalTree (plain e)) - 1
+unfolding minimal
+steps-nodes e = go (plain e) (plain-means e)
+  where
+    go : (o : Option Query) → Means (pairs e) o → steps (normalOf o) ≡ size (minimalTree o) - 1
+    go none w = refl
+    go (some Q) (v, w) =
+        let t = least-tree Q v in
+        subst (λ g. steps (normal g) ≡ size g - 1) (sym (t .top))
+        (let z = normal-steps (t .root) (t .below) (subst (λ g. count src g ≡ 1) (t .top) (t .source)) (subst (λ g. count dst g ≡ 1) (t .top) (t .dest)) in omega arith)
+
+-- "no Path+ expression of any length with the same meaning has fewer parent and child steps than the normal form"
+pub fewest-steps : (e f : Expr) → Agree (pairs e) (pairs f) → steps (normalOf (plain e)) ≤ steps f
+unfolding minimal
+fewest-steps e f ag =
+    let z = steps-nodes e in
+    let y = go (plain f) (plain-means f) (few-nodes f) in
+    let x : size (minimalTree (plain e)) ≡ size (minimalTree (plain f)) = ap size (one-tree e f ag) in omega arith
+  where
+    go : (o : Option Query) → Means (pairs f) o → AtMost (suc (steps f)) o → size (minimalTree o) - 1 ≤ steps f
+    go none w l = omega arith
+    go (some Q) (q, w) l = let s = smallest-query Q Q q q (λ D g m n. (λ x. x, λ x. x)) in omega arith

@@ -1,0 +1,34 @@
+-- "That no second answer fits is itself a proved statement": of the reader and of the check.
+use mathlib.Core.Path.{_≡_, refl, sym, _∙_}
+use mathlib.Core.List.{List}
+use Prim.Native.Nat.{ℕ, _-_}
+use native.Mathlib.Omega.{arith}
+use Rattle.meaning.specs.Number.{got, readNumber}
+use Rattle.meaning.specs.Word.{readWord}
+use Rattle.word.specs.Answer.{gotOf, checkedOf, verdict}
+use Rattle.word.specs.declared.number.Read.{Read}
+use Rattle.word.specs.declared.number.Read.the-variants.{Number, Broken}
+use Rattle.word.specs.declared.whole.Checked.{Checked}
+use Rattle.word.specs.declared.whole.Checked.the-variants.{Accepted, Refused}
+use Rattle.word.proofs.Numbers.{number-at}
+use Rattle.word.proofs.Outcomes.{refused-answered}
+
+pub read-unique : (w : List ℕ) (at : ℕ) (r r′ : Read) → gotOf at r ≡ readNumber w at → gotOf at r′ ≡ readNumber w at → r ≡ r′
+read-unique w at (Number v next) (Number v′ next′) p q =
+    let y : got v (next - at) ≡ got v′ (next′ - at) = p ∙ sym q in
+    let e : v ≡ v′ = cc in
+    let d : next - at ≡ next′ - at = cc in
+    let f : next ≡ next′ = omega (arith, number-at w at p refl .moved, number-at w at q refl .moved) in
+    cc
+read-unique w at (Number v next) Broken p q = absurd (let z : _≡_ {A = ℕ} 0 1 = cc in omega arith)
+read-unique w at Broken (Number v next) p q = absurd (let z : _≡_ {A = ℕ} 0 1 = cc in omega arith)
+read-unique w at Broken Broken p q = refl
+
+pub checked-unique : (w : List ℕ) (r r′ : Checked) → checkedOf r ≡ verdict (readWord w) → checkedOf r′ ≡ verdict (readWord w) → r ≡ r′
+checked-unique w r r′ p q = go r r′ (p ∙ sym q)
+  where
+    go : (r r′ : Checked) → checkedOf r ≡ checkedOf r′ → r ≡ r′
+    go Accepted Accepted e = refl
+    go Accepted (Refused n p) e = absurd (refused-answered (sym e))
+    go (Refused n p) Accepted e = absurd (refused-answered e)
+    go (Refused n p) (Refused m q) e = cc

@@ -1,0 +1,3 @@
+-- What the answers of this crate stand for in the definitions of `meaning`.
+pub mod Sign
+pub mod Answer

@@ -1,0 +1,92 @@
+//! Counts of what was compared: a comparison that never sees a refusal checks
+//! nothing, so each of them must have occurred.
+
+use std::collections::BTreeMap;
+use std::fmt::{self, Display, Formatter};
+
+const REFUSALS: usize = 10;
+
+/// How often each kind of input and each outcome occurred.
+#[derive(Clone, Debug, Default, PartialEq, Eq)]
+pub struct Counts {
+    words: BTreeMap<&'static str, u64>,
+    tables: BTreeMap<&'static str, u64>,
+    calls: u64,
+    written: u64,
+    yes: u64,
+    no: u64,
+    refusals: [u64; REFUSALS],
+}
+
+impl Counts {
+    pub(crate) fn word(&mut self, kind: &'static str) {
+        *self.words.entry(kind).or_default() += 1;
+    }
+
+    pub(crate) fn table(&mut self, kind: &'static str) {
+        *self.tables.entry(kind).or_default() += 1;
+    }
+
+    pub(crate) fn written(&mut self, returned: u64) {
+        self.returned(returned);
+        self.written += u64::from(returned >> 32 == 0);
+    }
+
+    pub(crate) fn selected(&mut self, returned: u64) {
+        self.returned(returned);
+        self.yes += u64::from(returned == 1);
+        self.no += u64::from(returned == 0);
+    }
+
+    fn returned(&mut self, returned: u64) {
+        self.calls += 1;
+        let number = (returned >> 32) as usize;
+        if (1..=REFUSALS).contains(&number) {
+            self.refusals[number - 1] += 1;
+        }
+    }
+
+    /// What has to occur in every comparison and didn't.
+    pub fn missing(&self) -> Vec<String> {
+        let answers = [
+            (self.written, "an answer written"),
+            (self.yes, "the answer yes"),
+            (self.no, "the answer no"),
+        ];
+        let answers = answers.map(|(count, what)| (count, what.to_string()));
+        let numbers = (1..).map(|number| format!("refusal {number}"));
+        let refusals = self.refusals.into_iter().zip(numbers);
+        let all = answers.into_iter().chain(refusals);
+        all.filter(|&(count, _)| count == 0)
+            .map(|(_, what)| what)
+            .collect()
+    }
+}
+
+impl Display for Counts {
+    fn fmt(&self, f: &mut Formatter) -> fmt::Result {
+        let words: u64 = self.words.values().sum();
+        let Counts {
+            calls,
+            written,
+            yes,
+            no,
+            ..
+        } = self;
+        write!(
+            f,
+            "{words} words, {calls} calls: written {written}, yes {yes}, no {no}"
+        )?;
+        for (place, count) in self.refusals.iter().enumerate() {
+            write!(f, ", refusal {} {count}", place + 1)?;
+        }
+        for (title, kinds) in [("words", &self.words), ("tables", &self.tables)] {
+            write!(f, "; {title}:")?;
+            for (place, (kind, count)) in kinds.iter().enumerate() {
+                let comma = if place == 0 { "" } else { "," };
+                write!(f, "{comma} {kind} {count}")?;
+            }
+        }
+        Ok(())
+    }
+}
