@@ -1,17 +1,16 @@
 -- Laws of rows in image order: what is read from them does not depend on the fuel, each row opens into itself, what lies below it and its later
 -- brothers, row u is the u-th node of the tree, and each row below the top has its parent before it.
-use mathlib.Core.Path.{_≡_, refl, sym, ap, _∙_}
+use mathlib.Core.Path.{_≡_, refl, ap, _∙_}
 use mathlib.Core.Logic.{_⊎_, inl, inr}
-use mathlib.Core.Option.{Option, none, some}
+use mathlib.Core.Option.{none, some}
 use mathlib.Core.List.{List, [], _∷_, _++_}
 use Prim.Native.Nat.{ℕ, zero, suc, _+_, _-_, _<_, _≤_}
 use native.Mathlib.Omega.{arith}
 use native.Mathlib.Decide.{ℕ-discrete, decLt}
 use lib.ListN.{length, getD, length-append}
-use lib.Dec.{ltb}
 use borrow.Author.Tests.{lt-ltb, le-ltb}
 use Rattle.meaning.specs.Basics.{look}
-use Rattle.meaning.specs.Tree.{Forest, bare, tree, Tag, size, preorder}
+use Rattle.meaning.specs.Tree.{Forest, bare, tree, size, preorder}
 use Rattle.rows.specs.Rows.{tagAt, brothers, below, shape, mapT, treeRows, Holds, width, Counted, Hung, noRow, Rows}
 
 -- ------------------------------------------------------------------ renaming

@@ -1,0 +1,338 @@
+-- Putting a tree into a list that is in order, by two links, and putting a forest in order in place: what is read afterwards.
+use mathlib.Core.Path.{_≡_, refl, sym, ap, _∙_}
+use mathlib.Core.Logic.{_⊎_, inl, inr}
+use mathlib.Core.List.{List}
+use mathlib.Core.Bool.{Bool, true, false, cond}
+use Prim.Native.Nat.{ℕ, suc, _<_, _≤_}
+use native.Mathlib.Omega.{arith}
+use lib.ListN.{length, getD, set, length-set}
+use lib.Seq.{getD-set-same, getD-set-other}
+use Rattle.meaning.specs.Tree.{Forest, bare, tree, size}
+use Rattle.rows.specs.Rows.{width}
+use Rattle.order.specs.Links.{forestAt, Linked, In, Apart, cmpT, upTo, placeBy, orderedBy, spotOf, Ready, Placed, Loose, Ordered}
+use Rattle.order.proofs.Links.{read-is, finite-of, read-none, Opens, opens}
+
+-- ------------------------------------------------------------------ links that are kept
+kept : (fs ns fs′ ns′ : List ℕ) → length ns′ ≡ length ns → (F : Forest ℕ) (c : ℕ)
+    → ((j : ℕ) → In j F → (getD fs′ j 0 ≡ getD fs j 0) × (getD ns′ j 0 ≡ getD ns j 0)) → Linked fs ns c F → Linked fs′ ns′ c F
+kept fs ns fs′ ns′ len bare c same h = rw len h
+kept fs ns fs′ ns′ len (tree i k r) c same (e, l, hk, hr) = (
+  e,
+  rw len l,
+  rw (same i (inl refl) .0) (kept fs ns fs′ ns′ len k (getD fs i 0) (λ j m. same j (inr (inl m))) hk),
+  rw (same i (inl refl) .1) (kept fs ns fs′ ns′ len r (getD ns i 0) (λ j m. same j (inr (inr m))) hr),
+)
+
+in-lt : (fs ns : List ℕ) (F : Forest ℕ) (c j : ℕ) → Linked fs ns c F → In j F → j < length ns
+in-lt fs ns bare c j h m = absurd m
+in-lt fs ns (tree i k r) c j (e, l, hk, hr) (inl m) = rw m l
+in-lt fs ns (tree i k r) c j (e, l, hk, hr) (inr (inl m)) = in-lt fs ns k (getD fs i 0) j hk m
+in-lt fs ns (tree i k r) c j (e, l, hk, hr) (inr (inr m)) = in-lt fs ns r (getD ns i 0) j hr m
+
+-- ------------------------------------------------------------------ a tree put into a list
+module _ (key : List ℕ) (c : ℕ) (K : Forest ℕ) where
+  in-place : (Q : Forest ℕ) (j : ℕ) → In j (placeBy key c K Q) → (j ≡ c) ⊎ In j K ⊎ In j Q
+  unfolding placeBy
+  in-place bare j m = m
+  in-place (tree b l r) j m = go (in-place r j) (upTo (cmpT key c K b l)) m
+    where
+      go : (In j (placeBy key c K r) → (j ≡ c) ⊎ In j K ⊎ In j r) → (t : Bool)
+          → In j (cond t (tree c K (tree b l r)) (tree b l (placeBy key c K r))) → (j ≡ c) ⊎ In j K ⊎ In j (tree b l r)
+      go ih true x = x
+      go ih false (inl x) = inr (inr (inl x))
+      go ih false (inr (inl x)) = inr (inr (inr (inl x)))
+      go ih false (inr (inr x)) = up (ih x)
+        where
+          up : (j ≡ c) ⊎ In j K ⊎ In j r → (j ≡ c) ⊎ In j K ⊎ In j (tree b l r)
+          up (inl y) = inl y
+          up (inr (inl y)) = inr (inl y)
+          up (inr (inr y)) = inr (inr (inr (inr y)))
+
+  size-place : (Q : Forest ℕ) → size (placeBy key c K Q) ≡ size (tree c K Q)
+  unfolding placeBy
+  size-place bare = refl
+  size-place (tree b l r) = go (size-place r) (upTo (cmpT key c K b l))
+    where
+      go : size (placeBy key c K r) ≡ size (tree c K r) → (t : Bool) → size (cond t (tree c K (tree b l r)) (tree b l (placeBy key c K r))) ≡ size (tree c K (tree b l r))
+      go ih true = refl
+      go ih false = omega arith
+
+  apart-place : (Q : Forest ℕ) → Apart (tree c K Q) → Apart (placeBy key c K Q)
+  unfolding placeBy
+  apart-place bare a = a
+  apart-place (tree b l r) (ck, cq, kq, ak, (bl, br, lr, al, ar)) =
+      go (apart-place r (ck, (λ m. cq (inr (inr m))), (λ j m m′. kq j m (inr (inr m′))), ak, ar)) (upTo (cmpT key c K b l))
+    where
+      go : Apart (placeBy key c K r) → (t : Bool) → Apart (cond t (tree c K (tree b l r)) (tree b l (placeBy key c K r)))
+      go ih true = (ck, cq, kq, ak, (bl, br, lr, al, ar))
+      go ih false = (bl, (λ m. one (in-place r b m)), (λ j m m′. two j m (in-place r j m′)), al, ih)
+        where
+          one : (b ≡ c) ⊎ In b K ⊎ In b r → ⊥
+          one (inl e) = cq (inl (sym e))
+          one (inr (inl m)) = kq b m (inl refl)
+          one (inr (inr m)) = br m
+
+          two : (j : ℕ) → In j l → (j ≡ c) ⊎ In j K ⊎ In j r → ⊥
+          two j m (inl e) = cq (inr (inl (rw e at m)))
+          two j m (inr (inl x)) = kq j x (inr (inl m))
+          two j m (inr (inr x)) = lr j m x
+
+-- rows other than c and p keep their links
+other : (fs ns : List ℕ) (c p v w x : ℕ) (F : Forest ℕ) → (In c F → ⊥) → (In p F → ⊥) → Linked fs ns x F → Linked fs (set (set ns c v) p w) x F
+other fs ns c p v w x F nc np h =
+    kept fs ns fs (set (set ns c v) p w) (length-set (set ns c v) p w ∙ length-set ns c v) F x
+    (λ j m. (refl, getD-set-other (set ns c v) p j w 0 (λ e. np (rw e at m)) ∙ getD-set-other ns c j v 0 (λ e. nc (rw e at m)))) h
+
+module _ (fs ns key : List ℕ) (c : ℕ) (K : Forest ℕ) (lc : c < length ns) (hK : Linked fs ns (getD fs c 0) K) (cK : In c K → ⊥) where
+  -- after the tree at p, or in front
+  abbrev Lands : ℕ → ℕ → Forest ℕ → ℕ → Type 0
+  Lands q p₀ Q p =
+      ((p ≡ p₀) × (placeBy key c K Q ≡ tree c K Q)) ⊎ (In p Q × Linked fs (set (set ns c (getD ns p 0)) p c) q (placeBy key c K Q))
+
+  lands : (Q : Forest ℕ) (q p₀ : ℕ) → Linked fs ns q Q → Apart Q → (In c Q → ⊥) → ((j : ℕ) → In j K → In j Q → ⊥) → Lands q p₀ Q (spotOf key c K p₀ Q)
+  unfolding spotOf placeBy
+  lands bare q p₀ h a cQ kQ = inl (refl, refl)
+  lands (tree b l r) q p₀ (e, lb, hl, hr) (bl, br, lr, al, ar) cQ kQ =
+      go (upTo (cmpT key c K b l)) (lands r (getD ns b 0) b hr ar (λ m. cQ (inr (inr m))) (λ j m m′. kQ j m (inr (inr m′))))
+    where
+      go : (t : Bool) → Lands (getD ns b 0) b r (spotOf key c K b r)
+          → ((cond t p₀ (spotOf key c K b r) ≡ p₀) × (cond t (tree c K (tree b l r)) (tree b l (placeBy key c K r)) ≡ tree c K (tree b l r)))
+          ⊎ (In (cond t p₀ (spotOf key c K b r)) (tree b l r)
+          × Linked fs (set (set ns c (getD ns (cond t p₀ (spotOf key c K b r)) 0)) (cond t p₀ (spotOf key c K b r)) c) q (cond t (tree c K (tree b l r)) (tree b l (placeBy key c K r))))
+      go true ih = inl (refl, refl)
+      go false (inl (ep, er)) =
+          inr (
+            inl ep,
+            rw (ep, er) (
+              e,
+              rw (length-set (set ns c (getD ns b 0)) b c, length-set ns c (getD ns b 0)) lb,
+              other fs ns c b (getD ns b 0) c (getD fs b 0) l (λ m. cQ (inr (inl m))) bl hl,
+              rw (getD-set-same (set ns c (getD ns b 0)) b c 0 (rw (length-set ns c (getD ns b 0)) lb)) (
+                refl,
+                rw (length-set (set ns c (getD ns b 0)) b c, length-set ns c (getD ns b 0)) lc,
+                other fs ns c b (getD ns b 0) c (getD fs c 0) K cK (λ m. kQ b m (inl refl)) hK,
+                rw (getD-set-other (set ns c (getD ns b 0)) b c c 0 (λ x. cQ (inl x)), getD-set-same ns c (getD ns b 0) 0 lc)
+                    (other fs ns c b (getD ns b 0) c (getD ns b 0) r (λ m. cQ (inr (inr m))) br hr),
+              ),
+            ),
+          )
+      go false (inr (m, h)) =
+          let p = spotOf key c K b r in
+          inr (
+            inr (inr m),
+            (
+              e,
+              rw (length-set (set ns c (getD ns p 0)) p c, length-set ns c (getD ns p 0)) lb,
+              other fs ns c p (getD ns p 0) c (getD fs b 0) l (λ x. cQ (inr (inl x))) (λ x. lr p x m) hl,
+              rw (getD-set-other (set ns c (getD ns p 0)) p b c 0 (λ x. br (rw x m)), getD-set-other ns c b (getD ns p 0) 0 (λ x. cQ (inl (sym x)))) h,
+            ),
+          )
+
+module _ (fs ns key : List ℕ) (c q : ℕ) (w : Ready fs ns key c q) (p : ℕ) (ep : p ≡ spotOf key c (forestAt fs ns (getD fs c 0)) (length ns) (forestAt fs ns q)) where
+  abbrev K : Forest ℕ
+  K = forestAt fs ns (getD fs c 0)
+
+  abbrev Q : Forest ℕ
+  Q = forestAt fs ns q
+
+  landed : Lands fs ns key c K (w .inside) (w .kids .holds) (w .apart .0) q (length ns) Q p
+  landed = rw ep (lands fs ns key c K (w .inside) (w .kids .holds) (w .apart .0) Q q (length ns) (w .list .holds) (w .apart .4) (w .apart .1) (w .apart .2))
+
+  built : (ns′ : List ℕ) (r : ℕ) → r < 65536 → length ns′ ≡ length ns → Linked fs ns′ r (placeBy key c K Q)
+      → ((j : ℕ) → (j ≡ c → ⊥) → (In j Q → ⊥) → getD ns′ j 0 ≡ getD ns j 0) → Placed fs ns key c q ns′ r
+  built ns′ r low len h rest =
+      let s : size (placeBy key c K Q) ≤ length ns′ = rw (size-place key c K Q, len) (w .room) in
+      record { reads = read-is fs ns′ r (placeBy key c K Q) h s; finite = finite-of fs ns′ r (placeBy key c K Q) h s; low = low; nexts = len; rest = rest }
+
+  pub placed-front : length ns ≤ p → (ns′ : List ℕ) → ns′ ≡ set ns c q → Placed fs ns key c q ns′ c
+  placed-front h ns′ e = go landed
+    where
+      go : Lands fs ns key c K (w .inside) (w .kids .holds) (w .apart .0) q (length ns) Q p → Placed fs ns key c q ns′ c
+      go (inl (x, y)) = rw e (built (set ns c q) c (omega (arith, w .inside, w .short)) (length-set ns c q) (rw y (
+        refl,
+        rw (length-set ns c q) (w .inside),
+        kept fs ns fs (set ns c q) (length-set ns c q) K (getD fs c 0) (λ j m. (refl, getD-set-other ns c j q 0 (λ x′. w .apart .0 (rw x′ at m)))) (w .kids .holds),
+        rw (getD-set-same ns c q 0 (w .inside)) (kept fs ns fs (set ns c q) (length-set ns c q) Q q (λ j m. (refl, getD-set-other ns c j q 0 (λ x′. w .apart .1 (rw x′ at m)))) (w .list .holds)),
+      ))
+          (λ j jc jq. getD-set-other ns c j q 0 jc))
+      go (inr (m, y)) = absurd (omega (arith, in-lt fs ns Q q p (w .list .holds) m))
+
+  pub placed-after : p < length ns → (m : ℕ) → m ≡ getD ns p 0 → (ns₁ ns₂ : List ℕ) → ns₁ ≡ set ns c m → ns₂ ≡ set ns₁ p c → Placed fs ns key c q ns₂ q
+  placed-after h m em ns₁ ns₂ e₁ e₂ = go landed
+    where
+      go : Lands fs ns key c K (w .inside) (w .kids .holds) (w .apart .0) q (length ns) Q p → Placed fs ns key c q ns₂ q
+      go (inl (x, y)) = absurd (omega arith)
+      go (inr (mp, y)) = rw (e₂, e₁, em) (built (set (set ns c (getD ns p 0)) p c) q (w .low) (length-set (set ns c (getD ns p 0)) p c ∙ length-set ns c (getD ns p 0)) y
+          (λ j jc jq. getD-set-other (set ns c (getD ns p 0)) p j c 0 (λ x. jq (rw x mp)) ∙ getD-set-other ns c j (getD ns p 0) 0 jc))
+
+-- ------------------------------------------------------------------ forests in order
+-- so is every row, with the number of its children
+abbrev pub Each : (ℕ → ℕ → Type 0) → Forest ℕ → Type 0
+Each P bare = Unit {0}
+Each P (tree i k r) = P i (width k) × Each P k × Each P r
+
+pub each-map : (P Q : ℕ → ℕ → Type 0) → ((i w : ℕ) → P i w → Q i w) → (F : Forest ℕ) → Each P F → Each Q F
+each-map P Q f bare h = tt
+each-map P Q f (tree i k r) (pi, pk, pr) = (f i (width k) pi, each-map P Q f k pk, each-map P Q f r pr)
+
+module _ (key : List ℕ) where
+  in-orderedBy : (F : Forest ℕ) (j : ℕ) → In j (orderedBy key F) → In j F
+  unfolding orderedBy
+  in-orderedBy bare j m = m
+  in-orderedBy (tree i k r) j m = go (in-place key i (orderedBy key k) (orderedBy key r) j m) (in-orderedBy k j) (in-orderedBy r j)
+    where
+      go : (j ≡ i) ⊎ In j (orderedBy key k) ⊎ In j (orderedBy key r) → (In j (orderedBy key k) → In j k) → (In j (orderedBy key r) → In j r) → (j ≡ i) ⊎ In j k ⊎ In j r
+      go (inl x) a b = inl x
+      go (inr (inl x)) a b = inr (inl (a x))
+      go (inr (inr x)) a b = inr (inr (b x))
+
+  pub size-orderedBy : (F : Forest ℕ) → size (orderedBy key F) ≡ size F
+  unfolding orderedBy
+  size-orderedBy bare = refl
+  size-orderedBy (tree i k r) = let a = size-place key i (orderedBy key k) (orderedBy key r) in let b = size-orderedBy k in let d = size-orderedBy r in omega arith
+
+  apart-both : (i : ℕ) (k r : Forest ℕ) → Apart (orderedBy key k) → Apart (orderedBy key r) → Apart (tree i k r) → Apart (tree i (orderedBy key k) (orderedBy key r))
+  apart-both i k r sk sr (ik, ir, kr, ak, ar) = ((λ m. ik (in-orderedBy k i m)), (λ m. ir (in-orderedBy r i m)), (λ j m m′. kr j (in-orderedBy k j m) (in-orderedBy r j m′)), sk, sr)
+
+  apart-orderedBy : (F : Forest ℕ) → Apart F → Apart (orderedBy key F)
+  unfolding orderedBy
+  apart-orderedBy bare a = a
+  apart-orderedBy (tree i k r) a = apart-place key i (orderedBy key k) (orderedBy key r) (apart-both i k r (apart-orderedBy k (a .3)) (apart-orderedBy r (a .4)) a)
+
+  -- so does the number of brothers, and the number of each row's children
+  width-place : (i : ℕ) (k R : Forest ℕ) → width (placeBy key i k R) ≡ suc (width R)
+  unfolding placeBy
+  width-place i k bare = refl
+  width-place i k (tree j l r) = go (upTo (cmpT key i k j l)) (width-place i k r)
+    where
+      go : (t : Bool) → width (placeBy key i k r) ≡ suc (width r) → width (cond t (tree i k (tree j l r)) (tree j l (placeBy key i k r))) ≡ suc (suc (width r))
+      go true ih = refl
+      go false ih = ap suc ih
+
+  pub width-orderedBy : (F : Forest ℕ) → width (orderedBy key F) ≡ width F
+  unfolding orderedBy
+  width-orderedBy bare = refl
+  width-orderedBy (tree i k r) = width-place i (orderedBy key k) (orderedBy key r) ∙ ap suc (width-orderedBy r)
+
+  each-place : (P : ℕ → ℕ → Type 0) (i : ℕ) (k R : Forest ℕ) → Each P (tree i k R) → Each P (placeBy key i k R)
+  unfolding placeBy
+  each-place P i k bare h = h
+  each-place P i k (tree j l r) (pi, pk, (pj, pl, pr)) = go (upTo (cmpT key i k j l)) (each-place P i k r (pi, pk, pr))
+    where
+      go : (t : Bool) → Each P (placeBy key i k r) → Each P (cond t (tree i k (tree j l r)) (tree j l (placeBy key i k r)))
+      go true ih = (pi, pk, (pj, pl, pr))
+      go false ih = (pj, pl, ih)
+
+  pub each-orderedBy : (P : ℕ → ℕ → Type 0) (F : Forest ℕ) → Each P F → Each P (orderedBy key F)
+  unfolding orderedBy
+  each-orderedBy P bare h = h
+  each-orderedBy P (tree i k r) (pi, pk, pr) =
+      each-place P i (orderedBy key k) (orderedBy key r) (rw (width-orderedBy k) pi, each-orderedBy P k pk, each-orderedBy P r pr)
+
+-- ------------------------------------------------------------------ one call of in_order
+pub ordered-none : (fs ns key : List ℕ) (c : ℕ) → Loose fs ns key c → length ns ≤ c → Ordered fs ns key c fs ns c
+ordered-none fs ns key c w h =
+    record { reads = rw (read-none fs ns c h) (unfold orderedBy in refl); finite = w .finite; low = w .low; firsts = refl; nexts = refl; rest = λ j m. (refl, refl) }
+
+module _ (fs ns key : List ℕ) (c : ℕ) (w : Loose fs ns key c) (l : c < length ns) (i : ℕ) (ei : i ≡ getD fs c 0) (low : i < 65536) where
+  abbrev o : Opens fs ns c
+  o = opens fs ns c (w .finite) l
+
+  abbrev K₀ : Forest ℕ
+  K₀ = forestAt fs ns (getD fs c 0)
+
+  abbrev R₀ : Forest ℕ
+  R₀ = forestAt fs ns (getD ns c 0)
+
+  all-apart : Apart (tree c K₀ R₀)
+  all-apart = rw (o .reads) at (w .apart)
+
+  all-small : size (tree c K₀ R₀) ≤ length ns
+  all-small = rw (o .reads) at (w .finite .small)
+
+  pub kids-loose : Loose fs ns key i
+  kids-loose = record { wide = w .wide; short = w .short; low = low; finite = rw ei (o .down); apart = rw ei (all-apart .3) }
+
+  module _ (fs₁ ns₁ : List ℕ) (k : ℕ) (O₁ : Ordered fs ns key i fs₁ ns₁ k) (fs₂ : List ℕ) (e₂ : fs₂ ≡ set fs₁ c k) (j : ℕ) (ej : j ≡ getD ns₁ c 0) (lowj : j < 65536) where
+    rest₁ : (x : ℕ) → (In x K₀ → ⊥) → (getD fs₁ x 0 ≡ getD fs x 0) × (getD ns₁ x 0 ≡ getD ns x 0)
+    rest₁ x = rw ei at (O₁ .rest x)
+
+    len₂ : length fs₂ ≡ length fs
+    len₂ = rw e₂ (length-set fs₁ c k ∙ O₁ .firsts)
+
+    at-j : j ≡ getD ns c 0
+    at-j = ej ∙ rest₁ c (all-apart .0) .1
+
+    -- what lies beside stays
+    beside : Linked fs₂ ns₁ j R₀
+    beside = rw at-j (kept fs ns fs₂ ns₁ (O₁ .nexts) R₀ (getD ns c 0) (λ x m. (rw e₂ (getD-set-other fs₁ c x k 0 (λ y. all-apart .1 (rw y at m)) ∙ rest₁ x (λ y. all-apart .2 x y m) .0), rest₁ x (λ y. all-apart .2 x y m) .1)) (o .along .holds))
+
+    reads-j : forestAt fs₂ ns₁ j ≡ R₀
+    reads-j = read-is fs₂ ns₁ j R₀ beside (rw (O₁ .nexts) (o .along .small))
+
+    pub rest-loose : Loose fs₂ ns₁ key j × (size (forestAt fs₂ ns₁ j) < size (forestAt fs ns c))
+    rest-loose = (
+      record {
+        wide = record { firsts = rw (O₁ .nexts, len₂) (w .wide .firsts); keys = rw (O₁ .nexts) (w .wide .keys) };
+        short = rw (O₁ .nexts) (w .short);
+        low = lowj;
+        finite = finite-of fs₂ ns₁ j R₀ beside (rw (O₁ .nexts) (o .along .small));
+        apart = rw reads-j (all-apart .4);
+      },
+      rw reads-j (o .along-less),
+    )
+
+    module _ (fs₃ ns₃ : List ℕ) (q : ℕ) (O₂ : Ordered fs₂ ns₁ key j fs₃ ns₃ q) where
+      rest₂ : (x : ℕ) → (In x R₀ → ⊥) → (getD fs₃ x 0 ≡ getD fs₂ x 0) × (getD ns₃ x 0 ≡ getD ns₁ x 0)
+      rest₂ x = rw reads-j at (O₂ .rest x)
+
+      reads-k : forestAt fs₁ ns₁ k ≡ orderedBy key K₀
+      reads-k = O₁ .reads ∙ ap (λ z. orderedBy key (forestAt fs ns z)) ei
+
+      len₃ : length ns₃ ≡ length ns
+      len₃ = O₂ .nexts ∙ O₁ .nexts
+
+      at-k : getD fs₃ c 0 ≡ k
+      at-k = rest₂ c (all-apart .1) .0 ∙ rw e₂ (getD-set-same fs₁ c k 0 (omega (arith, O₁ .firsts, w .wide .firsts)))
+
+      under : Linked fs₃ ns₃ k (orderedBy key K₀)
+      under = kept fs₁ ns₁ fs₃ ns₃ (O₂ .nexts) (orderedBy key K₀) k
+          (λ x m. let y = in-orderedBy key K₀ x m in let z = rest₂ x (λ u. all-apart .2 x y u) in
+          (z .0 ∙ rw e₂ (getD-set-other fs₁ c x k 0 (λ u. all-apart .0 (rw u at y))), z .1))
+          (rw reads-k at (O₁ .finite .holds))
+
+      small-k : size (orderedBy key K₀) ≤ length ns₃
+      small-k = rw (size-orderedBy key K₀, len₃) (o .down .small)
+
+      kids-are : forestAt fs₃ ns₃ (getD fs₃ c 0) ≡ orderedBy key K₀
+      kids-are = rw at-k (read-is fs₃ ns₃ k (orderedBy key K₀) under small-k)
+
+      list-is : forestAt fs₃ ns₃ q ≡ orderedBy key R₀
+      list-is = O₂ .reads ∙ ap (orderedBy key) reads-j
+
+      pub ready : Ready fs₃ ns₃ key c q
+      ready = record {
+        wide = record { firsts = rw (len₃, O₂ .firsts, len₂) (w .wide .firsts); keys = rw len₃ (w .wide .keys) };
+        inside = rw len₃ l;
+        short = rw len₃ (w .short);
+        low = O₂ .low;
+        kids = rw at-k (finite-of fs₃ ns₃ k (orderedBy key K₀) under small-k);
+        list = O₂ .finite;
+        apart = rw (kids-are, list-is) (apart-both key c K₀ R₀ (apart-orderedBy key K₀ (all-apart .3)) (apart-orderedBy key R₀ (all-apart .4)) all-apart);
+        room = rw (kids-are, list-is, size-orderedBy key K₀, size-orderedBy key R₀, len₃) all-small;
+      }
+
+      pub ordered-some : (ns₄ : List ℕ) (r : ℕ) → Placed fs₃ ns₃ key c q ns₄ r → Ordered fs ns key c fs₃ ns₄ r
+      ordered-some ns₄ r P = record {
+        reads = P .reads ∙ rw (kids-are, list-is, o .reads) (unfold orderedBy in refl);
+        finite = P .finite;
+        low = P .low;
+        firsts = O₂ .firsts ∙ len₂;
+        nexts = P .nexts ∙ len₃;
+        rest = λ x m. let y : In x (tree c K₀ R₀) → ⊥ = rw (o .reads) at m in
+            let a = rest₁ x (λ u. y (inr (inl u))) in
+            let b = rest₂ x (λ u. y (inr (inr u))) in (
+              b .0 ∙ rw e₂ (getD-set-other fs₁ c x k 0 (λ u. y (inl u))) ∙ a .0,
+              P .rest x (λ u. y (inl u)) (λ u. y (inr (inr (in-orderedBy key R₀ x (rw list-is at u))))) ∙ b .1 ∙ a .1,
+            );
+      }

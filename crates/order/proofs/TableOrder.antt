@@ -1,0 +1,186 @@
+-- The tree of a table, put in order by its keys, is the table's tree in image order; rows that show it are that tree.
+use mathlib.Core.Path.{_≡_, refl, sym, ap, _∙_}
+use mathlib.Core.Logic.{_⊎_, inl, inr}
+use mathlib.Core.List.{List, [], _∷_}
+use mathlib.Core.Bool.{cond}
+use Prim.Native.Nat.{ℕ, zero, suc, _+_, _-_, _%_, _<_, _≤_}
+use native.Mathlib.Omega.{arith}
+use native.Mathlib.Decide.{ℕ-discrete, decLt}
+use lib.ListN.{length, getD}
+use lib.Dec.{ltb, eqb}
+use borrow.Author.Tests.{eq-eqb, ne-eqb}
+use Rattle.meaning.specs.Tree.{Forest, bare, tree, size, plant}
+use Rattle.meaning.specs.Image.{labCode, markCode, ordered}
+use Rattle.rows.specs.Rows.{labOf, tagAt, shape, mapT, treeRows, width, Counted, noRow, Rows}
+use Rattle.rows.proofs.Rows.{holds-is}
+use Rattle.order.specs.Table.{childrenOf, grown, tableShape, tableTree, TreeTable}
+use Rattle.order.specs.Gathering.{Gathered}
+use Rattle.order.specs.Keys.{Keys}
+use Rattle.order.specs.Links.{orderedBy}
+use Rattle.order.specs.LaidOut.{Shows, Borne}
+use Rattle.order.proofs.Inserting.{size-orderedBy, width-orderedBy, Each, each-map, each-orderedBy}
+use Rattle.order.proofs.Records.{Keyed, ordered-by}
+use Rattle.order.proofs.Growing.{Children, all-children, children-few, Levels, level-le, size-grown}
+use Rattle.order.proofs.Gathering.{slot-row}
+use Rattle.order.proofs.LaidOut.{numbered, width-numbered, holds-shown, hung-shown, counted-shown, tags-shown}
+
+-- ------------------------------------------------------------------ what a code and a mark stand for
+lab-code : (c : ℕ) → labCode (labOf c) ≡ c
+lab-code zero = refl
+lab-code (suc l) = refl
+
+mark-code : (m : ℕ) → m ≤ 3 → markCode (eqb (m % 2) 1) (ltb 1 m) ≡ m
+mark-code zero h = refl
+mark-code (suc zero) h = refl
+mark-code (suc (suc zero)) h = refl
+mark-code (suc (suc (suc zero))) h = refl
+mark-code (suc (suc (suc (suc m)))) h = absurd (omega arith)
+
+-- ------------------------------------------------------------------ numbers of children
+width-plant : (g : ℕ → Forest ℕ) (js : List ℕ) → width (plant (λ j. j) g js) ≡ length js
+width-plant g [] = refl
+width-plant g (j ∷ js) = ap suc (width-plant g js)
+
+width-grown : (parent : List ℕ) (n m p : ℕ) → 0 < m → width (grown m parent n p) ≡ length (childrenOf p parent n 0)
+unfolding grown
+width-grown parent n zero p h = absurd (omega arith)
+width-grown parent n (suc m) p h = width-plant (grown m parent n) (childrenOf p parent n 0)
+
+-- ------------------------------------------------------------------ the table
+module _ (parent code mark : List ℕ) (n : ℕ) (T : TreeTable parent code mark n) where
+  -- the table's levels, one lower: above the top there is noRow
+  abbrev pub lev : ℕ → ℕ
+  lev p = cond (eqb p noRow) 0 (suc (T .level p))
+
+  row-lev : (p : ℕ) → p < n → lev p ≡ suc (T .level p)
+  row-lev p l = rw (ne-eqb p noRow (λ e. omega (arith, T .few)))
+
+  end-lev : (p : ℕ) → p ≡ noRow → lev p ≡ 0
+  end-lev p e = rw (eq-eqb p noRow e)
+
+  pub levels : Levels parent n lev
+  levels = record {
+    above = omega (arith, T .few);
+    ends = end-lev noRow refl;
+    step = λ i l. go i l (ℕ-discrete (getD parent i 0) noRow);
+  }
+    where
+      go : (i : ℕ) → i < n → Dec (getD parent i 0 ≡ noRow) → (lev i ≡ suc (lev (getD parent i 0))) × ((getD parent i 0 < n) ⊎ (getD parent i 0 ≡ noRow))
+      go i l (yes e) = (row-lev i l ∙ ap suc (ap (T .level) (T .single i l e) ∙ T .topLevel ∙ sym (end-lev (getD parent i 0) e)), inr e)
+      go i l (no d) = let h = T .linked i l d in (row-lev i l ∙ ap suc (h .1 ∙ sym (row-lev (getD parent i 0) (h .0))), inl (h .0))
+
+  -- the whole tree has n nodes, and at most one top
+  size-shape : size (tableShape parent n) ≡ n
+  unfolding tableShape
+  size-shape = size-grown parent n lev levels
+
+  one-top : (b : ℕ) (js : List ℕ) → Children parent noRow n b js → length js ≤ 1
+  one-top b [] k = omega arith
+  one-top b (j ∷ []) k = omega arith
+  one-top b (i ∷ (j ∷ js)) (l, u, e, (l′, u′, e′, k)) = let x = T .single i u e in let y = T .single j u′ e′ in absurd (omega arith)
+
+  width-shape : width (tableShape parent n) ≤ 1
+  unfolding tableShape
+  width-shape = rw (width-grown parent n (suc n) noRow (omega arith)) (one-top 0 (childrenOf noRow parent n 0) (all-children parent n noRow))
+
+  -- ---------------------------------------------------------------- what is gathered and keyed
+  module _ (fs ns count : List ℕ) (G : Gathered parent n 0 fs ns count) where
+    count-is : (j : ℕ) → j < n → getD count j 0 ≡ length (childrenOf j parent n 0)
+    count-is j l = let z : n - 0 ≡ n = omega arith in rw (← slot-row n j l, z) at (G .counts j (inl l))
+
+    -- row j is a row of the table, and w is the number of its children
+    abbrev pub Right : ℕ → ℕ → Type 0
+    Right j w = (j < n) × (getD count j 0 ≡ w)
+
+    right-plant : (m p b : ℕ) (js : List ℕ) → ((j : ℕ) → j < n → getD parent j 0 ≡ p → (0 < m) × Each Right (grown m parent n j))
+        → Children parent p n b js → Each Right (plant (λ j. j) (grown m parent n) js)
+    right-plant m p b [] g k = tt
+    right-plant m p b (j ∷ js) g (l, u, e, k) =
+        let h = g j u e in ((u, count-is j u ∙ sym (width-grown parent n m j (h .0))), h .1, right-plant m p (suc j) js g k)
+
+    right-grown : (m p : ℕ) → n < lev p + m → Each Right (grown m parent n p)
+    unfolding grown
+    right-grown zero p h = tt
+    right-grown (suc m) p h =
+        right-plant m p 0 (childrenOf p parent n 0)
+        (λ j l e.
+        let s = levels .step j l .0 in
+        let y = ap lev e in
+        let b = level-le parent n lev levels j l in
+        (omega arith, right-grown m j (omega arith)))
+        (all-children parent n p)
+
+    right-shape : Each Right (tableShape parent n)
+    unfolding tableShape
+    right-shape = right-grown (suc n) noRow (let z = end-lev noRow refl in omega arith)
+
+    each-counted : (F : Forest ℕ) → Each Right F → Counted count F
+    each-counted bare h = tt
+    each-counted (tree i k r) (hi, hk, hr) = (hi .1, each-counted k hk, each-counted r hr)
+
+    module _ (key : List ℕ) (K : Keys code mark count n key) where
+      right-keyed : (i w : ℕ) → Right i w → Keyed key (tagAt code mark) i w
+      right-keyed i w (l, c) =
+          let a = lab-code (getD code i 0) in
+          let b = mark-code (getD mark i 0) (T .marked i l) in
+          let d = count-is i l in
+          let f = children-few parent i n 0 in
+          record { is = K i l ∙ rw (a, b, c); low = rw a (let z = T .labels i l in omega arith); few = omega (arith, T .few) }
+
+      -- the table's tree in image order, as row numbers
+      abbrev sorted : Forest ℕ
+      sorted = orderedBy key (tableShape parent n)
+
+      tree-sorted : mapT (tagAt code mark) sorted ≡ ordered (tableTree parent code mark n)
+      unfolding tableTree
+      tree-sorted = ordered-by key (tagAt code mark) (tableShape parent n) (each-map Right (Keyed key (tagAt code mark)) right-keyed (tableShape parent n) right-shape)
+
+      pub size-sorted : size sorted ≡ n
+      size-sorted = size-orderedBy key (tableShape parent n) ∙ size-shape
+
+      -- ------------------------------------------------------------ rows that show it
+      right-sorted : Each Right sorted
+      right-sorted = each-orderedBy key Right (tableShape parent n) right-shape
+
+      row-right : (row up span : List ℕ) (u at : ℕ) (F : Forest ℕ) → Shows row up span u at F → Each Right F → (j : ℕ) → at ≤ j → j < at + size F → getD row j 0 < n
+      row-right row up span u at bare s h j l m = absurd (omega arith)
+      row-right row up span u at (tree i k r) (a, b, c, d, e) ((hi, w), hk, hr) j l m =
+          go (ℕ-discrete j at) (decLt j (suc at + size k)) (λ x y. row-right row up span at (suc at) k d hk j x y) (λ x y. row-right row up span u (suc at + size k) r e hr j x y)
+        where
+          go : Dec (j ≡ at) → Dec (j < suc at + size k) → (suc at ≤ j → j < suc at + size k → getD row j 0 < n)
+              → (suc at + size k ≤ j → j < suc at + size k + size r → getD row j 0 < n) → getD row j 0 < n
+          go (yes q) x f g = rw (q, a) hi
+          go (no q) (yes x) f g = f (omega arith) x
+          go (no q) (no x) f g = g (omega arith) (omega arith)
+
+      module _ (row up span code′ mark′ kids : List ℕ) (S : Shows row up span noRow 0 sorted) where
+        pub row-lt : (j : ℕ) → j < n → getD row j 0 < n
+        row-lt j l = let z = size-sorted in row-right row up span noRow 0 sorted S right-sorted j (omega arith) (omega arith)
+
+        shape-shown : shape span n ≡ numbered 0 sorted
+        unfolding shape
+        shape-shown = let z = size-sorted in holds-is n span 0 n (numbered 0 sorted) (holds-shown row up span noRow 0 n sorted S (omega arith)) (omega arith)
+
+        module _ (B : Borne row code mark count n code′ mark′ kids) where
+          fits-n : 0 + size sorted ≤ n
+          fits-n = let z = size-sorted in omega arith
+
+          pub tree-rows : treeRows code′ mark′ span n ≡ ordered (tableTree parent code mark n)
+          unfolding treeRows
+          tree-rows = rw shape-shown (tags-shown row up span code mark count n code′ mark′ kids B noRow 0 sorted S fits-n ∙ tree-sorted)
+
+          pub are-rows : n ≤ length code′ → n ≤ length mark′ → n ≤ length kids → n ≤ length span → n ≤ length up → Rows code′ mark′ kids span up n
+          are-rows lc lm lk ls lu = record {
+            few = T .few;
+            codes = lc;
+            marks = lm;
+            counts = lk;
+            spans = ls;
+            ups = lu;
+            labels = λ u l. rw (B u l .0) (T .labels (getD row u 0) (row-lt u l));
+            marked = λ u l. rw (B u l .1) (T .marked (getD row u 0) (row-lt u l));
+            laid = rw shape-shown (let z = size-sorted in holds-shown row up span noRow 0 n sorted S (omega arith));
+            counted = rw shape-shown (counted-shown row up span code mark count n code′ mark′ kids B noRow 0 sorted S fits-n (each-counted sorted right-sorted));
+            hung = rw shape-shown (hung-shown row up span noRow 0 sorted S);
+            single = rw (shape-shown, width-numbered 0 sorted, width-orderedBy key (tableShape parent n)) width-shape;
+          }

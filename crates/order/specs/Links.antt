@@ -1,0 +1,130 @@
+-- Forests as links: `first` (fs) has for each row its first child, `next` (ns) its next brother. A link that is not below the length of `next` leads
+-- nowhere. Rows are compared by their keys, and brothers put in order by insertion, as `place` and `ordered` of Image do it by records.
+use mathlib.Core.Path.{_≡_}
+use mathlib.Core.Logic.{_⊎_}
+use mathlib.Core.List.{List}
+use mathlib.Core.Bool.{Bool, true, false, cond}
+use Prim.Native.Nat.{ℕ, zero, suc, _<_, _≤_}
+use lib.ListN.{length, getD}
+use lib.Dec.{ltb}
+use Rattle.meaning.specs.Tree.{Forest, bare, tree, size}
+use Rattle.order.specs.declared.Order.{Order}
+use Rattle.order.specs.declared.Order.the-variants.{Before, Same, After}
+
+-- the forest whose first tree stands at row c, at most m links deep
+unfoldable pub forestFrom : ℕ → List ℕ → List ℕ → ℕ → Forest ℕ
+forestFrom zero fs ns c = bare
+forestFrom (suc m) fs ns c = cond (ltb c (length ns)) (tree c (forestFrom m fs ns (getD fs c 0)) (forestFrom m fs ns (getD ns c 0))) bare
+
+-- no forest has more links than rows
+unfoldable pub forestAt : List ℕ → List ℕ → ℕ → Forest ℕ
+forestAt fs ns c = forestFrom (length ns) fs ns c
+
+-- the links at c and below are exactly those of the forest
+abbrev pub Linked : List ℕ → List ℕ → ℕ → Forest ℕ → Type 0
+Linked fs ns c bare = length ns ≤ c
+Linked fs ns c (tree i k r) = (c ≡ i) × (i < length ns) × Linked fs ns (getD fs i 0) k × Linked fs ns (getD ns i 0) r
+
+-- row j is one of the forest's
+abbrev pub In : ℕ → Forest ℕ → Type 0
+In j bare = ⊥
+In j (tree i k r) = (j ≡ i) ⊎ In j k ⊎ In j r
+
+-- no row stands in the forest twice
+abbrev pub Apart : Forest ℕ → Type 0
+Apart bare = Unit {0}
+Apart (tree i k r) = (In i k → ⊥) × (In i r → ⊥) × ((j : ℕ) → In j k → In j r → ⊥) × Apart k × Apart r
+
+-- c is the start of a finite forest
+pub record Finite (fs ns : List ℕ) (c : ℕ) : Type 0 where
+  pub holds : Linked fs ns c (forestAt fs ns c)
+  pub small : size (forestAt fs ns c) ≤ length ns
+
+-- every row has its place in the lists beside `next`
+pub record Wide (fs ns key : List ℕ) : Type 0 where
+  pub firsts : length ns ≤ length fs
+  pub keys : length ns ≤ length key
+
+-- ------------------------------------------------------------------ comparing and ordering by keys
+-- the first answer, or where it is Same the second one
+abbrev pub thenBy : Order → Order → Order
+thenBy Before o = Before
+thenBy Same o = o
+thenBy After o = After
+
+-- two numbers
+abbrev pub cmpN : ℕ → ℕ → Order
+cmpN a b = cond (ltb a b) Before (cond (ltb b a) After Same)
+
+-- two lists of brothers: the first two keys, then what lies below the first two rows, then their later brothers
+unfoldable pub cmpF : List ℕ → Forest ℕ → Forest ℕ → Order
+cmpF key bare bare = Same
+cmpF key bare (tree b j s) = Before
+cmpF key (tree a k r) bare = After
+cmpF key (tree a k r) (tree b j s) = thenBy (cmpN (getD key a 0) (getD key b 0)) (thenBy (cmpF key k j) (cmpF key r s))
+
+-- the tree at a with the forest k below it against the tree at b with j below it
+abbrev pub cmpT : List ℕ → ℕ → Forest ℕ → ℕ → Forest ℕ → Order
+cmpT key a k b j = thenBy (cmpN (getD key a 0) (getD key b 0)) (cmpF key k j)
+
+-- before, or the same
+abbrev pub upTo : Order → Bool
+upTo Before = true
+upTo Same = true
+upTo After = false
+
+-- a tree among brothers that are in order
+unfoldable pub placeBy : List ℕ → ℕ → Forest ℕ → Forest ℕ → Forest ℕ
+placeBy key i k bare = tree i k bare
+placeBy key i k (tree j l r) = cond (upTo (cmpT key i k j l)) (tree i k (tree j l r)) (tree j l (placeBy key i k r))
+
+-- the forest with all brothers in order
+unfoldable pub orderedBy : List ℕ → Forest ℕ → Forest ℕ
+orderedBy key bare = bare
+orderedBy key (tree i k r) = placeBy key i (orderedBy key k) (orderedBy key r)
+
+-- ------------------------------------------------------------------ what the functions owe
+-- the tree at c goes before the tree at q or is equal to it
+unfoldable pub goesFirst : List ℕ → List ℕ → List ℕ → ℕ → ℕ → Bool
+goesFirst fs ns key c q = upTo (cmpT key c (forestAt fs ns (getD fs c 0)) q (forestAt fs ns (getD fs q 0)))
+
+-- the last tree of a list that goes before the tree at c; p where there is none
+unfoldable pub spotOf : List ℕ → ℕ → Forest ℕ → ℕ → Forest ℕ → ℕ
+spotOf key c k p bare = p
+spotOf key c k p (tree j l r) = cond (upTo (cmpT key c k j l)) p (spotOf key c k j r)
+
+-- the tree at c may be put into the list at q
+pub record Ready (fs ns key : List ℕ) (c q : ℕ) : Type 0 where
+  pub wide : Wide fs ns key
+  pub inside : c < length ns
+  pub short : length ns < 65536
+  pub low : q < 65536
+  pub kids : Finite fs ns (getD fs c 0)
+  pub list : Finite fs ns q
+  pub apart : Apart (tree c (forestAt fs ns (getD fs c 0)) (forestAt fs ns q))
+  pub room : size (tree c (forestAt fs ns (getD fs c 0)) (forestAt fs ns q)) ≤ length ns
+
+-- it was put there, r is the first tree, and no other row was linked anew
+pub record Placed (fs ns key : List ℕ) (c q : ℕ) (ns′ : List ℕ) (r : ℕ) : Type 0 where
+  pub reads : forestAt fs ns′ r ≡ placeBy key c (forestAt fs ns (getD fs c 0)) (forestAt fs ns q)
+  pub finite : Finite fs ns′ r
+  pub low : r < 65536
+  pub nexts : length ns′ ≡ length ns
+  pub rest : (j : ℕ) → (j ≡ c → ⊥) → (In j (forestAt fs ns q) → ⊥) → getD ns′ j 0 ≡ getD ns j 0
+
+-- the forest at c may be put in order
+pub record Loose (fs ns key : List ℕ) (c : ℕ) : Type 0 where
+  pub wide : Wide fs ns key
+  pub short : length ns < 65536
+  pub low : c < 65536
+  pub finite : Finite fs ns c
+  pub apart : Apart (forestAt fs ns c)
+
+-- it was put in order, r is its first tree, and no other row was linked anew
+pub record Ordered (fs ns key : List ℕ) (c : ℕ) (fs′ ns′ : List ℕ) (r : ℕ) : Type 0 where
+  pub reads : forestAt fs′ ns′ r ≡ orderedBy key (forestAt fs ns c)
+  pub finite : Finite fs′ ns′ r
+  pub low : r < 65536
+  pub firsts : length fs′ ≡ length fs
+  pub nexts : length ns′ ≡ length ns
+  pub rest : (j : ℕ) → (In j (forestAt fs ns c) → ⊥) → (getD fs′ j 0 ≡ getD fs j 0) × (getD ns′ j 0 ≡ getD ns j 0)
