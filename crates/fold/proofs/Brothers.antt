@@ -14,7 +14,7 @@ use Rattle.meaning.specs.Tree.{Forest, bare, tree, Tag, Any}
 use Rattle.meaning.specs.Folding.{Folds, Onto}
 use Rattle.rows.specs.Rows.{tagAt, below, mapT, Holds}
 use Rattle.rows.proofs.Rows.{size-holds, Opens, holds-first, holds-opens}
-use Rattle.fold.specs.Kept.{kept, left, leftBelow, OntoRow, Apart}
+use Rattle.fold.specs.Kept.{kept, left, leftBelow, OntoRow, NoneFold}
 
 -- row j is one of the brothers
 abbrev pub Top : ℕ → Forest ℕ → Type 0
@@ -203,9 +203,9 @@ module _ (code mark span up : List ℕ) (p : ℕ) where
 
   -- no two brothers fold, if no row of one that is still there folds onto the row of another
   pub apart-of-rows : (u e : ℕ) (F : Forest ℕ) → Holds span u e F
-      → ((x y : ℕ) → Top x F → Top y F → getD up x 0 ≡ p → getD up y 0 ≡ p → ¬ (x ≡ y) → ¬ OntoRow code mark span up x y) → Apart (left code mark up p F)
+      → ((x y : ℕ) → Top x F → Top y F → getD up x 0 ≡ p → getD up y 0 ≡ p → ¬ (x ≡ y) → ¬ OntoRow code mark span up x y) → NoneFold (left code mark up p F)
   apart-of-rows u e F h =
-      left-ind (λ G L. Each G → Apart L) u e (λ f. tt)
+      left-ind (λ G L. Each G → NoneFold L) u e (λ f. tt)
       (λ i r l o b q. (λ d f. (q (later i r f), here i r o b d f, there i r o b d f), λ d f. q (later i r f))) u (omega arith) F h
     where
       Each : Forest ℕ → Type 0

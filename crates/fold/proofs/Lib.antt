@@ -1,5 +1,5 @@
 mod Brothers
 mod Test
 mod Children
-mod Whole
+pub mod Whole
 mod Moved

@@ -182,8 +182,8 @@ module _ (code₀ mark₀ up code mark parent moved : List ℕ) (i j : ℕ) (cod
         codes = rw (M .codes) (getD-set-other code j t (getD code i 0) 0 (λ e. omega arith) ∙ f .codes);
         marks = rw (M .marks) (getD-set-other mark j t (getD mark i 0) 0 (λ e. omega arith) ∙ f .marks);
         parents =
-          rw (M .parents, M .moves)
-          (getD-set-other parent j t (parentMoved up moved i) 0 (λ e. omega arith) ∙ f .parents ∙ sym (parent-same up moved i j x (f .above) (omega (arith, f .low))));
+            rw (M .parents, M .moves)
+            (getD-set-other parent j t (parentMoved up moved i) 0 (λ e. omega arith) ∙ f .parents ∙ sym (parent-same up moved i j x (f .above) (omega (arith, f .low))));
         above = f .above;
       }
 
@@ -197,7 +197,7 @@ module _ (code₀ mark₀ up code mark parent moved : List ℕ) (i j : ℕ) (cod
         codes = rw (M .codes) (getD-set-same code j (getD code i 0) 0 lc ∙ ec);
         marks = rw (M .marks) (getD-set-same mark j (getD mark i 0) 0 lm ∙ em);
         parents =
-          rw (M .parents, M .moves) (getD-set-same parent j (parentMoved up moved i) 0 lp ∙ sym (parent-same up moved i j i a (omega arith)));
+            rw (M .parents, M .moves) (getD-set-same parent j (parentMoved up moved i) 0 lp ∙ sym (parent-same up moved i j i a (omega arith)));
         above = a;
       }
 
@@ -229,7 +229,7 @@ module _ {code₀ mark₀ span up : List ℕ} {n : ℕ} (R : Remains code₀ mar
   pub moving-none : (parent moved : List ℕ) → Moving code₀ mark₀ span up n code₀ mark₀ parent moved 0 0
   moving-none parent moved =
       let w = walk-nodes span up (R .was) n (R .rows .few) (R .only) noRow 0 n (shape span n) [] (R .rows .laid) (R .rows .hung) (λ e. omega arith) (omega arith)
-          (stop (omega arith)) in
+      (stop (omega arith)) in
       record {
         done = [];
         todo = nodes (kept up noRow (shape span n));
@@ -260,15 +260,15 @@ module _ {code₀ mark₀ span up : List ℕ} {n : ℕ} (R : Remains code₀ mar
           until = moving-step l e .1;
           room = omega (arith, M .room);
           facts =
-            listed-map (Fact code₀ mark₀ up code mark parent moved i) (Fact code₀ mark₀ up code mark parent moved (i + s)) 0 (M .done)
-            (λ t x m f. record {
-              low = omega (arith, f .low);
-              place = f .place;
-              codes = f .codes;
-              marks = f .marks;
-              parents = f .parents;
-              above = f .above;
-            }) (M .facts);
+              listed-map (Fact code₀ mark₀ up code mark parent moved i) (Fact code₀ mark₀ up code mark parent moved (i + s)) 0 (M .done)
+              (λ t x m f. record {
+                low = omega (arith, f .low);
+                place = f .place;
+                codes = f .codes;
+                marks = f .marks;
+                parents = f .parents;
+                above = f .above;
+              }) (M .facts);
           ahead = λ x m. M .ahead x (omega arith);
           codes = M .codes;
           marks = M .marks;
@@ -307,13 +307,13 @@ module _ {code₀ mark₀ span up : List ℕ} {n : ℕ} (R : Remains code₀ mar
           until = omega arith;
           room = omega (arith, M .room);
           facts =
-            listed-snoc (Fact code₀ mark₀ up code′ mark′ parent′ moved′ (i + 1)) 0 (M .done) i
-            (listed-map (Fact code₀ mark₀ up code mark parent moved i) (Fact code₀ mark₀ up code′ mark′ parent′ moved′ (i + 1)) 0 (M .done)
-            (λ t x m f. fact-kept code₀ mark₀ up code mark parent moved i j code′ mark′ parent′ moved′ P t x (omega arith) f) (M .facts))
-            (let z : 0 + length (M .done) ≡ j = omega arith in
-            rw z
-            (fact-new code₀ mark₀ up code mark parent moved i j code′ mark′ parent′ moved′ P (omega (arith, M .codes, M .room, R .rows .codes))
-            (omega (arith, M .marks, M .room, R .rows .marks)) (omega (arith, M .room)) (omega arith) (a .0) (a .1) (parent-before i l d)));
+              listed-snoc (Fact code₀ mark₀ up code′ mark′ parent′ moved′ (i + 1)) 0 (M .done) i
+              (listed-map (Fact code₀ mark₀ up code mark parent moved i) (Fact code₀ mark₀ up code′ mark′ parent′ moved′ (i + 1)) 0 (M .done)
+              (λ t x m f. fact-kept code₀ mark₀ up code mark parent moved i j code′ mark′ parent′ moved′ P t x (omega arith) f) (M .facts))
+              (let z : 0 + length (M .done) ≡ j = omega arith in
+              rw z
+              (fact-new code₀ mark₀ up code mark parent moved i j code′ mark′ parent′ moved′ P (omega (arith, M .codes, M .room, R .rows .codes))
+              (omega (arith, M .marks, M .room, R .rows .marks)) (omega (arith, M .room)) (omega arith) (a .0) (a .1) (parent-before i l d)));
           ahead = λ x m. (
             rw (P .codes) (getD-set-other code j x (getD code i 0) 0 (λ e. omega (arith, M .room)) ∙ M .ahead x (omega arith) .0),
             rw (P .marks) (getD-set-other mark j x (getD mark i 0) 0 (λ e. omega (arith, M .room)) ∙ M .ahead x (omega arith) .1),
@@ -429,11 +429,11 @@ module _ {code₀ mark₀ span up : List ℕ} {n : ℕ} (R : Remains code₀ mar
         marked = λ t m. let w = fact t m in rw (w .1 .marks) (R .rows .marked (w .0) (omega (arith, w .1 .low, M .until)));
         laid = rw shape-is laid;
         counted =
-          rw shape-is
-          (counted-moved code₀ mark₀ up code mark parent moved i counts 0 F spread (values-at width F counts [] [] 0 (sym (append-nil counts)) refl));
+            rw shape-is
+            (counted-moved code₀ mark₀ up code mark parent moved i counts 0 F spread (values-at width F counts [] [] 0 (sym (append-nil counts)) refl));
         hung =
-          rw shape-is
-          (hung-moved code₀ mark₀ up code mark parent moved i noRow noRow 0 F (kept-hung up noRow (shape span n)) spread refl (omega (arith, M .until, R .rows .few)));
+            rw shape-is
+            (hung-moved code₀ mark₀ up code mark parent moved i noRow noRow 0 F (kept-hung up noRow (shape span n)) spread refl (omega (arith, M .until, R .rows .few)));
         single = rw (shape-is, width-mapT (λ x. getD moved x 0) F) (omega (arith, kept-width up noRow (shape span n), R .rows .single));
       }
 

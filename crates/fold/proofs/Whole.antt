@@ -16,7 +16,7 @@ use Rattle.theory.proofs.Unique.{minimal-same}
 use Rattle.theory.proofs.Records.{same-ordered}
 use Rattle.rows.specs.Rows.{tagAt, below, shape, mapT, treeRows, Holds, Hung, width, noRow, Rows}
 use Rattle.rows.proofs.Rows.{size-holds, Opens, holds-first, row-opens}
-use Rattle.fold.specs.Kept.{goneRow, kept, left, leftBelow, keptTree, Stands, Goes, Only, Apart, ChildrenFolded, Whole, RowsFolded}
+use Rattle.fold.specs.Kept.{goneRow, kept, left, leftBelow, keptTree, Stands, Goes, Only, NoneFold, ChildrenFolded, Whole, RowsFolded, Remains}
 use Rattle.fold.proofs.Brothers.{Top, top-range, top-opens, left-bare, left-here, left-gone, left-ind}
 use Rattle.fold.proofs.Children.{below-same}
 
@@ -55,17 +55,17 @@ module _ (code mark span up : List ℕ) (p u e : ℕ) (F : Forest ℕ) (h : Hold
       )) u (omega arith) F h
 
   -- where none folds among them and each is folded to the end below, they are folded to the end
-  reduced-brothers : Apart (left code mark up p F) → ((c : ℕ) → Top c F → Reduced (leftBelow code mark span up c)) → Reduced (left code mark up p F)
+  reduced-brothers : NoneFold (left code mark up p F) → ((c : ℕ) → Top c F → Reduced (leftBelow code mark span up c)) → Reduced (left code mark up p F)
   reduced-brothers =
-      left-ind code mark span up p (λ G L. Apart L → ((c : ℕ) → Top c G → Reduced (leftBelow code mark span up c)) → Reduced L) u e (λ a b. tt)
+      left-ind code mark span up p (λ G L. NoneFold L → ((c : ℕ) → Top c G → Reduced (leftBelow code mark span up c)) → Reduced L) u e (λ a b. tt)
       (λ i r l o g f. (λ d a b. (b i (inl refl), f (a .0) (λ c t. b c (inr t)), a .1, a .2), λ n a b. f a (λ c t. b c (inr t)))) u (omega arith) F h
 
-apart-single : (code mark up : List ℕ) (p : ℕ) (F : Forest ℕ) → width F ≤ 1 → Apart (left code mark up p F)
+apart-single : (code mark up : List ℕ) (p : ℕ) (F : Forest ℕ) → width F ≤ 1 → NoneFold (left code mark up p F)
 apart-single code mark up p bare l = rw (left-bare code mark up p) tt
 apart-single code mark up p (tree i k (tree j k′ r)) l = absurd (omega arith)
 apart-single code mark up p (tree i k bare) l = go (ℕ-discrete (getD up i 0) p)
   where
-    go : Dec (getD up i 0 ≡ p) → Apart (left code mark up p (tree i k bare))
+    go : Dec (getD up i 0 ≡ p) → NoneFold (left code mark up p (tree i k bare))
     go (yes d) = rw (left-here code mark up p i k bare d, left-bare code mark up p) (tt, λ x. x, λ x. x)
     go (no n) = rw (left-gone code mark up p i k bare n, left-bare code mark up p) tt
 
@@ -212,3 +212,8 @@ kept-hung up p (tree i k r) h = rw (eq-eqb (getD up i 0) p (h .0), kept-hung up 
 pub kept-all : (code mark span up : List ℕ) (n : ℕ) → Whole code mark span up n → keptTree code mark span up n ≡ treeRows code mark span n
 unfolding left treeRows
 kept-all code mark span up n R = ap (mapT (tagAt code mark)) (kept-hung up noRow (shape span n) (R .hung))
+
+-- what folding has left, the rows that are left can be put to the front
+pub folded-remains : (code mark kids span up : List ℕ) (n : ℕ) (up′ : List ℕ) → Rows code mark kids span up n → RowsFolded code mark span up n up′
+    → length up′ ≡ length up → Remains code mark span up′ n
+folded-remains code mark kids span up n up′ R W l = record { kids = kids; was = up; rows = R; ups = omega (arith, R .ups); only = W .only }

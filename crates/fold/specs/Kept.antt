@@ -65,9 +65,9 @@ pub record Stands (code mark span up : List ℕ) (u : ℕ) : Type 0 where
 
 -- ------------------------------------------------------------------ folding to the end
 -- no two of these brothers fold
-abbrev pub Apart : Forest Tag → Type 0
-Apart bare = Unit {0}
-Apart (tree a k r) = Apart r × (¬ Any (λ b j. Onto a k b j) r) × (¬ Any (λ b j. Onto b j a k) r)
+abbrev pub NoneFold : Forest Tag → Type 0
+NoneFold bare = Unit {0}
+NoneFold (tree a k r) = NoneFold r × (¬ Any (λ b j. Onto a k b j) r) × (¬ Any (λ b j. Onto b j a k) r)
 
 -- row j, a child of row p, goes
 pub record Goes (span up up′ : List ℕ) (p j : ℕ) : Type 0 where
@@ -85,7 +85,7 @@ Only span p up up′ = (j : ℕ) → (getD up′ j 0 ≡ getD up j 0) ⊎ Goes s
 pub record ChildrenFolded (code mark span up : List ℕ) (p : ℕ) (up′ : List ℕ) : Type 0 where
   pub to : Folds (leftBelow code mark span up p) (leftBelow code mark span up′ p)
   pub from : Folds (leftBelow code mark span up′ p) (leftBelow code mark span up p)
-  pub apart : Apart (leftBelow code mark span up′ p)
+  pub apart : NoneFold (leftBelow code mark span up′ p)
   pub only : Only span p up up′
 
 -- n rows that are a tree, or no rows; nothing is asked of the numbers of children, nor of labels and marks

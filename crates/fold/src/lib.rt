@@ -46,10 +46,11 @@ fn fits(code: &[u32], mark: &[u8], u: usize, v: usize) -> bool
         return false;
     }
     let x = code[u];
+    let y = code[v];
     if x == 0 {
         return true;
     }
-    x == code[v]
+    x == y
 }
 
 // The number of rows that row u and all below it take.
@@ -122,8 +123,9 @@ pub fn fold_children(code: &[u32], mark: &[u8], span: &[u16], up: &mut [u16], p:
             while b < end {
                 if is_brother(up, p, a, b) {
                     if folds_onto(code, mark, span, up, a, b) {
+                        let next = a + span_at(span, a);
                         up[a] = GONE;
-                        a += span_at(span, a);
+                        a = next;
                         continue 'search;
                     }
                 }
@@ -159,7 +161,15 @@ fn parent_moved(up: &[u16], moved: &[u16], i: usize) -> u16
 }
 
 // Row i is put at place j.
-fn move_row(code: &mut [u32], mark: &mut [u8], up: &[u16], i: usize, parent: &mut [u16], moved: &mut [u16], j: usize)
+fn move_row(
+    code: &mut [u32],
+    mark: &mut [u8],
+    up: &[u16],
+    i: usize,
+    parent: &mut [u16],
+    moved: &mut [u16],
+    j: usize,
+)
     requires { ⌜ Movable (now code) (now mark) (now up) i (now parent) (now moved) j ⌝ }
     ensures { λ _. ⌜ RowMoved (now (code .entry)) (now (mark .entry)) (now (up .entry)) i (now (parent .entry)) (now (moved .entry)) j (now (code .exit)) (now (mark .exit)) (now (parent .exit)) (now (moved .exit)) ⌝ }
 {
@@ -170,7 +180,15 @@ fn move_row(code: &mut [u32], mark: &mut [u8], up: &[u16], i: usize, parent: &mu
 }
 
 // The rows that are still there, in their order, are put to the front, each with the new number of its parent. Returns how many there are.
-pub fn keep_rows(code: &mut [u32], mark: &mut [u8], span: &[u16], up: &[u16], n: usize, parent: &mut [u16], moved: &mut [u16]) -> usize
+pub fn keep_rows(
+    code: &mut [u32],
+    mark: &mut [u8],
+    span: &[u16],
+    up: &[u16],
+    n: usize,
+    parent: &mut [u16],
+    moved: &mut [u16],
+) -> usize
     requires { ⌜ Remains (now code) (now mark) (now span) (now up) n × (n ≤ length (now parent)) × (n ≤ length (now moved)) ⌝ }
     ensures { λ r. ⌜ RowsKept (now (code .entry)) (now (mark .entry)) (now (span .entry)) (now (up .entry)) n (now (code .exit)) (now (mark .exit)) (now (parent .exit)) r ⌝ }
 {

@@ -1,15 +1,16 @@
-use Prim.Native.Nat.{_+_, _-_}
+-- The folding test. The outer loop has shown that every child of u before a lands on some child of v; the inner one that a misses every child of v before b.
+-- The recursion's measure is the height of what lies below u.
+use Prim.Native.Nat.{_+_, _-_, ℕ, _<_}
 use mathlib.Core.Path.{_≡_, refl, sym, _∙_}
 use mathlib.Core.Logic.{⊎-elim, inl, inr}
 use native.Mathlib.Omega.{arith}
 use borrow.Author.Tests.{not-true, not-false, eqb-true, eqb-false}
+use borrow.Fn.Kinds.{In}
+use borrow.Fn.PlainCycle.{Measures, is, falls, and}
 use Rattle.rows.specs.Rows.{below}
 use Rattle.fold.specs.Kept.{leftBelow, height}
 use Rattle.fold.proofs.Brothers.{Over, Lands, over-start, over-child, over-step, over-next, over-all}
 use Rattle.fold.proofs.Test.{Misses, onto-no-tag, onto-each, onto-none, calls, step, lands, misses}
-use Prim.Native.Nat.{ℕ, _<_}
-use borrow.Fn.Kinds.{In}
-use borrow.Fn.PlainCycle.{Measures, is, falls, and}
 use Rattle.fold.proofs.folds_onto.Reads as folds-onto
 use Rattle.fold.proofs.folds_onto.Kinds as folds-onto-kinds
 use Rattle.fold.proofs.+folds_onto.Lts-folds_onto as folds-onto-lts
@@ -45,113 +46,179 @@ folds-onto-Inv-child code mark span up u v u-end v-end a₀ a = Over span u (Lan
 abbrev folds-onto-μ-child : folds-onto-lts.MeasureT-child
 folds-onto-μ-child code mark span up u v u-end v-end a₀ a = u-end - a
 
--- src/lib.rt:73:9
 folds-onto-fits-requires : (t : ℕ) → folds-onto-lts.Need-fits-requires (folds-onto-claims t) (folds-onto-at t) folds-onto.Post folds-onto-Inv-loop folds-onto-μ-loop folds-onto-Inv-child folds-onto-μ-child
-folds-onto-fits-requires t c κs = omega (arith, c .before .before .before .before .pre .1 .0, c .before .before .before .before .pre .1 .1)
+folds-onto-fits-requires t c κs =
+    let s = c .before .before .before .before in
+    omega (arith, s .pre .1 .0, s .pre .1 .1)
 
--- src/lib.rt:74:9
 folds-onto-returns : (t : ℕ) → folds-onto-lts.Need-returns (folds-onto-claims t) (folds-onto-at t) folds-onto.Post folds-onto-Inv-loop folds-onto-μ-loop folds-onto-Inv-child folds-onto-μ-child
-folds-onto-returns t c = onto-no-tag (c .before .before .before .before .before .before .args .code .now) (c .before .before .before .before .before .before .args .mark .now) (c .before .before .before .before .before .before .args .span .now) (c .before .before .before .before .before .before .args .up .now) (c .before .before .before .before .before .before .args .u) (c .before .before .before .before .before .before .args .v) (sym (c .before .fits2 .ensures) ∙ not-true _ (c .if1 .taken))
+folds-onto-returns t c =
+    let s = c .before .before .before .before .before .before in
+    onto-no-tag (s .args .code .now) (s .args .mark .now) (s .args .span .now) (s .args .up .now) (s .args .u) (s .args .v) (sym (c .before .fits2 .ensures) ∙ not-true _ (c .if1 .taken))
 
--- src/lib.rt:76:21
 folds-onto-span-at-requires : (t : ℕ) → folds-onto-lts.Need-span-at-requires (folds-onto-claims t) (folds-onto-at t) folds-onto.Post folds-onto-Inv-loop folds-onto-μ-loop folds-onto-Inv-child folds-onto-μ-child
-folds-onto-span-at-requires t c κs = omega (arith, c .before .before .before .before .before .before .pre .1 .0)
+folds-onto-span-at-requires t c κs =
+    let s = c .before .before .before .before .before .before in
+    omega (arith, s .pre .1 .0)
 
--- src/lib.rt:76:17
 folds-onto-add-u-end : (t : ℕ) → folds-onto-lts.Need-add-u-end (folds-onto-claims t) (folds-onto-at t) folds-onto.Post folds-onto-Inv-loop folds-onto-μ-loop folds-onto-Inv-child folds-onto-μ-child
-folds-onto-add-u-end t c = omega (arith, c .before .before .before .before .before .before .before .pre .1 .0, c .span-at .ensures)
+folds-onto-add-u-end t c =
+    let s = c .before .before .before .before .before .before .before in
+    omega (arith, s .pre .1 .0, c .span-at .ensures)
 
--- src/lib.rt:77:21
 folds-onto-span-at-requires-2 : (t : ℕ) → folds-onto-lts.Need-span-at-requires-2 (folds-onto-claims t) (folds-onto-at t) folds-onto.Post folds-onto-Inv-loop folds-onto-μ-loop folds-onto-Inv-child folds-onto-μ-child
-folds-onto-span-at-requires-2 t c κs = omega (arith, c .before .before .before .before .before .before .before .pre .1 .1)
+folds-onto-span-at-requires-2 t c κs =
+    let s = c .before .before .before .before .before .before .before in
+    omega (arith, s .pre .1 .1)
 
--- src/lib.rt:77:17
 folds-onto-add-v-end : (t : ℕ) → folds-onto-lts.Need-add-v-end (folds-onto-claims t) (folds-onto-at t) folds-onto.Post folds-onto-Inv-loop folds-onto-μ-loop folds-onto-Inv-child folds-onto-μ-child
-folds-onto-add-v-end t c = omega (arith, c .before .before .before .before .before .before .before .before .pre .1 .1, c .span-at2 .ensures)
+folds-onto-add-v-end t c =
+    let s = c .before .before .before .before .before .before .before .before in
+    omega (arith, s .pre .1 .1, c .span-at2 .ensures)
 
--- src/lib.rt:78:17
 folds-onto-add-a : (t : ℕ) → folds-onto-lts.Need-add-a (folds-onto-claims t) (folds-onto-at t) folds-onto.Post folds-onto-Inv-loop folds-onto-μ-loop folds-onto-Inv-child folds-onto-μ-child
-folds-onto-add-a t c = omega (arith, c .before .before .before .before .before .before .before .before .pre .1 .0)
+folds-onto-add-a t c =
+    let s = c .before .before .before .before .before .before .before .before in
+    omega (arith, s .pre .1 .0)
 
--- src/lib.rt:79:5
 folds-onto-child-holds : (t : ℕ) → folds-onto-lts.Need-child-holds (folds-onto-claims t) (folds-onto-at t) folds-onto.Post folds-onto-Inv-loop folds-onto-μ-loop folds-onto-Inv-child folds-onto-μ-child
-folds-onto-child-holds t c = over-start _ _ _ _ (omega (arith, c .before .span-at .ensures)) (c .before .before .before .before .before .before .before .before .pre .1 .0 .held)
+folds-onto-child-holds t c =
+    let s = c .before .before .before .before .before .before .before .before in
+    over-start _ _ _ _ (omega (arith, c .before .span-at .ensures)) (s .pre .1 .0 .held)
 
--- src/lib.rt:80:12
 folds-onto-is-child-requires : (t : ℕ) → folds-onto-lts.Need-is-child-requires (folds-onto-claims t) (folds-onto-at t) folds-onto.Post folds-onto-Inv-loop folds-onto-μ-loop folds-onto-Inv-child folds-onto-μ-child
-folds-onto-is-child-requires t c κs = omega (arith, c .before .before .before .before .before .before .before .before .before .before .pre .1 .0, c .before .child .inv .ends, c .child-test .taken)
+folds-onto-is-child-requires t c κs =
+    let s = c .before .before .before .before .before .before .before .before .before .before in
+    omega (arith, s .pre .1 .0, c .before .child .inv .ends, c .child-test .taken)
 
--- src/lib.rt:81:25
 folds-onto-add-b : (t : ℕ) → folds-onto-lts.Need-add-b (folds-onto-claims t) (folds-onto-at t) folds-onto.Post folds-onto-Inv-loop folds-onto-μ-loop folds-onto-Inv-child folds-onto-μ-child
-folds-onto-add-b t c = omega (arith, c .before .before .before .before .before .before .before .before .before .before .before .before .pre .1 .1)
+folds-onto-add-b t c =
+    let s = c .before .before .before .before .before .before .before .before .before .before .before .before in
+    omega (arith, s .pre .1 .1)
 
--- src/lib.rt:82:13
 folds-onto-loop-holds : (t : ℕ) → folds-onto-lts.Need-loop-holds (folds-onto-claims t) (folds-onto-at t) folds-onto.Post folds-onto-Inv-loop folds-onto-μ-loop folds-onto-Inv-child folds-onto-μ-child
-folds-onto-loop-holds t c = (refl, over-start _ _ _ _ (omega (arith, c .before .before .before .before .span-at2 .ensures)) (c .before .before .before .before .before .before .before .before .before .before .before .before .pre .1 .1 .held))
+folds-onto-loop-holds t c =
+    let span-at2 = c .before .before .before .before .span-at2 in
+    let s = c .before .before .before .before .before .before .before .before .before .before .before .before in
+    (refl, over-start _ _ _ _ (omega (arith, span-at2 .ensures)) (s .pre .1 .1 .held))
 
--- src/lib.rt:83:20
 folds-onto-is-child-requires-2 : (t : ℕ) → folds-onto-lts.Need-is-child-requires-2 (folds-onto-claims t) (folds-onto-at t) folds-onto.Post folds-onto-Inv-loop folds-onto-μ-loop folds-onto-Inv-child folds-onto-μ-child
-folds-onto-is-child-requires-2 t c κs = omega (arith, c .before .before .before .before .before .before .before .before .before .before .before .before .before .before .pre .1 .1, c .before .loop .inv .1 .ends, c .loop-test .taken)
+folds-onto-is-child-requires-2 t c κs =
+    let s = c .before .before .before .before .before .before .before .before .before .before .before .before .before .before in
+    omega (arith, s .pre .1 .1, c .before .loop .inv .1 .ends, c .loop-test .taken)
 
--- src/lib.rt:84:24
 folds-onto-folds-onto-requires : (t : ℕ) → folds-onto-lts.Need-folds-onto-requires (folds-onto-claims t) (folds-onto-at t) folds-onto.Post folds-onto-Inv-loop folds-onto-μ-loop folds-onto-Inv-child folds-onto-μ-child
-folds-onto-folds-onto-requires t c κs = calls (c .before .before .before .before .before .before .before .before .before .before .before .before .before .before .before .before .pre .1 .0) (c .before .before .before .before .before .before .before .before .before .before .before .before .before .before .before .before .pre .1 .1) (c .before .before .before .before .before .before .before .child .inv) (c .before .before .before .before .before .before .child-test .taken) (c .before .before .before .loop .inv .0) (c .before .before .before .loop .inv .1) (c .before .before .loop-test .taken) (c .before .before .before .before .before .before .before .before .before .before .before .before .before .before .before .before .pre .0)
+folds-onto-folds-onto-requires t c κs =
+    let s = c .before .before .before .before .before .before .before .before .before .before .before .before .before .before .before .before in
+    let child = c .before .before .before .before .before .before .before .child in
+    let child-test = c .before .before .before .before .before .before .child-test in
+    let loop = c .before .before .before .loop in
+    calls (s .pre .1 .0) (s .pre .1 .1) (child .inv) (child-test .taken) (loop .inv .0) (loop .inv .1) (c .before .before .loop-test .taken) (s .pre .0)
 
--- src/lib.rt:85:30
 folds-onto-span-at-requires-3 : (t : ℕ) → folds-onto-lts.Need-span-at-requires-3 (folds-onto-claims t) (folds-onto-at t) folds-onto.Post folds-onto-Inv-loop folds-onto-μ-loop folds-onto-Inv-child folds-onto-μ-child
-folds-onto-span-at-requires-3 t c κs = omega (arith, c .before .before .before .before .before .before .before .before .before .before .before .before .before .before .before .before .before .before .pre .1 .0, c .before .before .before .before .before .before .before .before .before .child .inv .ends, c .before .before .before .before .before .before .before .before .child-test .taken, c .before .before .before .before .before .loop .inv .0)
+folds-onto-span-at-requires-3 t c κs =
+    let s = c .before .before .before .before .before .before .before .before .before .before .before .before .before .before .before .before .before .before in
+    let child = c .before .before .before .before .before .before .before .before .before .child in
+    let child-test = c .before .before .before .before .before .before .before .before .child-test in
+    let loop = c .before .before .before .before .before .loop in
+    omega (arith, s .pre .1 .0, child .inv .ends, child-test .taken, loop .inv .0)
 
--- src/lib.rt:85:25
 folds-onto-add-a-2 : (t : ℕ) → folds-onto-lts.Need-add-a-2 (folds-onto-claims t) (folds-onto-at t) folds-onto.Post folds-onto-Inv-loop folds-onto-μ-loop folds-onto-Inv-child folds-onto-μ-child
-folds-onto-add-a-2 t c = omega (arith, c .before .before .before .before .before .before .before .before .before .before .before .before .before .before .before .before .before .before .before .pre .1 .0, c .before .before .before .before .before .before .before .before .before .before .child .inv .ends, step (c .before .before .before .before .before .before .before .before .before .before .before .before .before .before .before .before .before .before .before .pre .1 .0) (c .before .before .before .before .before .before .before .before .before .before .before .before .before .before .before .before .before .before .before .pre .1 .1) (c .before .before .before .before .before .before .before .before .before .before .child .inv) (c .before .before .before .before .before .before .before .before .before .child-test .taken) (c .before .before .before .before .before .before .loop .inv .0) (c .before .before .before .before .before .before .loop .inv .1) (c .before .before .before .before .before .loop-test .taken) (c .span-at3 .ensures))
+folds-onto-add-a-2 t c =
+    let s = c .before .before .before .before .before .before .before .before .before .before .before .before .before .before .before .before .before .before .before in
+    let child = c .before .before .before .before .before .before .before .before .before .before .child in
+    let child-test = c .before .before .before .before .before .before .before .before .before .child-test in
+    let loop = c .before .before .before .before .before .before .loop in
+    let loop-test = c .before .before .before .before .before .loop-test in
+    omega (arith, s .pre .1 .0, child .inv .ends, step (s .pre .1 .0) (s .pre .1 .1) (child .inv) (child-test .taken) (loop .inv .0) (loop .inv .1) (loop-test .taken) (c .span-at3 .ensures))
 
--- src/lib.rt:79:5
 folds-onto-child-less : (t : ℕ) → folds-onto-lts.Need-child-less (folds-onto-claims t) (folds-onto-at t) folds-onto.Post folds-onto-Inv-loop folds-onto-μ-loop folds-onto-Inv-child folds-onto-μ-child
-folds-onto-child-less t c = omega (arith, c .before .before .before .before .before .before .loop .inv .0, step (c .before .before .before .before .before .before .before .before .before .before .before .before .before .before .before .before .before .before .before .pre .1 .0) (c .before .before .before .before .before .before .before .before .before .before .before .before .before .before .before .before .before .before .before .pre .1 .1) (c .before .before .before .before .before .before .before .before .before .before .child .inv) (c .before .before .before .before .before .before .before .before .before .child-test .taken) (c .before .before .before .before .before .before .loop .inv .0) (c .before .before .before .before .before .before .loop .inv .1) (c .before .before .before .before .before .loop-test .taken) (c .span-at3 .ensures))
+folds-onto-child-less t c =
+    let loop = c .before .before .before .before .before .before .loop in
+    let s = c .before .before .before .before .before .before .before .before .before .before .before .before .before .before .before .before .before .before .before in
+    let child = c .before .before .before .before .before .before .before .before .before .before .child in
+    let child-test = c .before .before .before .before .before .before .before .before .before .child-test in
+    let loop-test = c .before .before .before .before .before .loop-test in
+    omega (arith, loop .inv .0, step (s .pre .1 .0) (s .pre .1 .1) (child .inv) (child-test .taken) (loop .inv .0) (loop .inv .1) (loop-test .taken) (c .span-at3 .ensures))
 
--- src/lib.rt:79:5
 folds-onto-child-again : (t : ℕ) → folds-onto-lts.Need-child-again (folds-onto-claims t) (folds-onto-at t) folds-onto.Post folds-onto-Inv-loop folds-onto-μ-loop folds-onto-Inv-child folds-onto-μ-child
-folds-onto-child-again t c = lands (c .before .before .before .before .before .before .before .before .before .before .before .before .before .before .before .before .before .before .before .pre .1 .0) (c .before .before .before .before .before .before .before .before .before .before .before .before .before .before .before .before .before .before .before .pre .1 .1) (c .before .before .before .before .before .before .before .before .before .before .child .inv) (c .before .before .before .before .before .before .before .before .before .child-test .taken) (c .before .before .before .before .before .before .loop .inv .0) (c .before .before .before .before .before .before .loop .inv .1) (c .before .before .before .before .before .loop-test .taken) (c .span-at3 .ensures) (c .before .before .before .before .is-child2 .ensures) (c .before .before .before .if3 .taken) (c .before .before .folds-onto .ensures) (c .before .if4 .taken)
+folds-onto-child-again t c =
+    let s = c .before .before .before .before .before .before .before .before .before .before .before .before .before .before .before .before .before .before .before in
+    let child = c .before .before .before .before .before .before .before .before .before .before .child in
+    let child-test = c .before .before .before .before .before .before .before .before .before .child-test in
+    let loop = c .before .before .before .before .before .before .loop in
+    let loop-test = c .before .before .before .before .before .loop-test in
+    let is-child2 = c .before .before .before .before .is-child2 in
+    let if3 = c .before .before .before .if3 in
+    lands (s .pre .1 .0) (s .pre .1 .1) (child .inv) (child-test .taken) (loop .inv .0) (loop .inv .1) (loop-test .taken) (c .span-at3 .ensures) (is-child2 .ensures) (if3 .taken) (c .before .before .folds-onto .ensures) (c .before .if4 .taken)
 
--- src/lib.rt:89:22
 folds-onto-span-at-requires-4 : (t : ℕ) → folds-onto-lts.Need-span-at-requires-4 (folds-onto-claims t) (folds-onto-at t) folds-onto.Post folds-onto-Inv-loop folds-onto-μ-loop folds-onto-Inv-child folds-onto-μ-child
-folds-onto-span-at-requires-4 t c κs = omega (arith, c .before .before .before .before .before .before .before .before .before .before .before .before .before .before .before .before .pre .1 .1, c .before .before .before .loop .inv .1 .ends, c .before .before .loop-test .taken)
+folds-onto-span-at-requires-4 t c κs =
+    let s = c .before .before .before .before .before .before .before .before .before .before .before .before .before .before .before .before in
+    let loop = c .before .before .before .loop in
+    omega (arith, s .pre .1 .1, loop .inv .1 .ends, c .before .before .loop-test .taken)
 
--- src/lib.rt:89:17
 folds-onto-add-b-2 : (t : ℕ) → folds-onto-lts.Need-add-b-2 (folds-onto-claims t) (folds-onto-at t) folds-onto.Post folds-onto-Inv-loop folds-onto-μ-loop folds-onto-Inv-child folds-onto-μ-child
-folds-onto-add-b-2 t c = omega (arith, c .before .before .before .before .before .before .before .before .before .before .before .before .before .before .before .before .before .pre .1 .1, c .before .before .before .before .loop .inv .1 .ends, over-step (c .before .before .before .before .loop .inv .1) (c .before .before .before .loop-test .taken) (c .span-at4 .ensures))
+folds-onto-add-b-2 t c =
+    let s = c .before .before .before .before .before .before .before .before .before .before .before .before .before .before .before .before .before in
+    let loop = c .before .before .before .before .loop in
+    let loop-test = c .before .before .before .loop-test in
+    omega (arith, s .pre .1 .1, loop .inv .1 .ends, over-step (loop .inv .1) (loop-test .taken) (c .span-at4 .ensures))
 
--- src/lib.rt:82:13
 folds-onto-loop-less : (t : ℕ) → folds-onto-lts.Need-loop-less (folds-onto-claims t) (folds-onto-at t) folds-onto.Post folds-onto-Inv-loop folds-onto-μ-loop folds-onto-Inv-child folds-onto-μ-child
-folds-onto-loop-less t c = omega (arith, over-step (c .before .before .before .before .loop .inv .1) (c .before .before .before .loop-test .taken) (c .span-at4 .ensures))
+folds-onto-loop-less t c =
+    let loop = c .before .before .before .before .loop in
+    let loop-test = c .before .before .before .loop-test in
+    omega (arith, over-step (loop .inv .1) (loop-test .taken) (c .span-at4 .ensures))
 
--- src/lib.rt:82:13
 folds-onto-loop-again : (t : ℕ) → folds-onto-lts.Need-loop-again (folds-onto-claims t) (folds-onto-at t) folds-onto.Post folds-onto-Inv-loop folds-onto-μ-loop folds-onto-Inv-child folds-onto-μ-child
-folds-onto-loop-again t c = (c .before .before .before .before .loop .inv .0, misses (c .before .before .before .before .before .before .before .before .before .before .before .before .before .before .before .before .before .pre .1 .0) (c .before .before .before .before .before .before .before .before .before .before .before .before .before .before .before .before .before .pre .1 .1) (c .before .before .before .before .before .before .before .before .child .inv) (c .before .before .before .before .before .before .before .child-test .taken) (c .before .before .before .before .loop .inv .0) (c .before .before .before .before .loop .inv .1) (c .before .before .before .loop-test .taken) (c .span-at4 .ensures) _ (c .before .before .is-child2 .ensures) (⊎-elim (λ w. inr (w .1 .result, w .1 .ensures, w .2 .left)) (λ w. inl (w .left)) (c .before .if3 .came)))
+folds-onto-loop-again t c =
+    let loop = c .before .before .before .before .loop in
+    let s = c .before .before .before .before .before .before .before .before .before .before .before .before .before .before .before .before .before in
+    let child = c .before .before .before .before .before .before .before .before .child in
+    let child-test = c .before .before .before .before .before .before .before .child-test in
+    let loop-test = c .before .before .before .loop-test in
+    (loop .inv .0, misses (s .pre .1 .0) (s .pre .1 .1) (child .inv) (child-test .taken) (loop .inv .0) (loop .inv .1) (loop-test .taken) (c .span-at4 .ensures) _ (c .before .before .is-child2 .ensures) (⊎-elim (λ w. inr (w .1 .result, w .1 .ensures, w .2 .left)) (λ w. inl (w .left)) (c .before .if3 .came)))
 
--- src/lib.rt:91:13
 folds-onto-returns-2 : (t : ℕ) → folds-onto-lts.Need-returns-2 (folds-onto-claims t) (folds-onto-at t) folds-onto.Post folds-onto-Inv-loop folds-onto-μ-loop folds-onto-Inv-child folds-onto-μ-child
-folds-onto-returns-2 t c = onto-none (c .before .before .before .before .before .before .before .before .before .before .before .before .before .before .args .code .now) (c .before .before .before .before .before .before .before .before .before .before .before .before .before .before .args .mark .now) (c .before .before .before .before .before .before .before .before .before .before .before .before .before .before .args .span .now) (c .before .before .before .before .before .before .before .before .before .before .before .before .before .before .args .up .now) (c .before .before .before .before .before .before .before .before .before .before .before .before .before .before .args .u) (c .before .before .before .before .before .before .before .before .before .before .before .before .before .before .args .v) (c .before .before .before .before .before .before .before .before .before .before .before .before .before .before .pre .1 .0) (c .before .before .before .before .before .before .before .before .before .before .before .before .before .before .pre .1 .1) (c .before .before .before .before .before .child .a) (over-child (c .before .before .before .before .before .child .inv) (c .before .before .before .before .child-test .taken) .0) (eqb-true _ _ (sym (c .before .before .before .is-child .ensures) ∙ c .before .before .if2 .taken)) (over-all (c .before .loop .inv .1) (c .loop-test .left))
+folds-onto-returns-2 t c =
+    let s = c .before .before .before .before .before .before .before .before .before .before .before .before .before .before in
+    let child = c .before .before .before .before .before .child in
+    let child-test = c .before .before .before .before .child-test in
+    let is-child = c .before .before .before .is-child in
+    onto-none (s .args .code .now) (s .args .mark .now) (s .args .span .now) (s .args .up .now) (s .args .u) (s .args .v) (s .pre .1 .0) (s .pre .1 .1) (child .a) (over-child (child .inv) (child-test .taken) .0) (eqb-true _ _ (sym (is-child .ensures) ∙ c .before .before .if2 .taken)) (over-all (c .before .loop .inv .1) (c .loop-test .left))
 
--- src/lib.rt:93:14
 folds-onto-span-at-requires-5 : (t : ℕ) → folds-onto-lts.Need-span-at-requires-5 (folds-onto-claims t) (folds-onto-at t) folds-onto.Post folds-onto-Inv-loop folds-onto-μ-loop folds-onto-Inv-child folds-onto-μ-child
-folds-onto-span-at-requires-5 t c κs = omega (arith, c .before .before .before .before .before .before .before .before .before .before .before .before .pre .1 .0, c .before .before .before .child .inv .ends, c .before .before .child-test .taken)
+folds-onto-span-at-requires-5 t c κs =
+    let s = c .before .before .before .before .before .before .before .before .before .before .before .before in
+    let child = c .before .before .before .child in
+    omega (arith, s .pre .1 .0, child .inv .ends, c .before .before .child-test .taken)
 
--- src/lib.rt:93:9
 folds-onto-add-a-3 : (t : ℕ) → folds-onto-lts.Need-add-a-3 (folds-onto-claims t) (folds-onto-at t) folds-onto.Post folds-onto-Inv-loop folds-onto-μ-loop folds-onto-Inv-child folds-onto-μ-child
-folds-onto-add-a-3 t c = omega (arith, c .before .before .before .before .before .before .before .before .before .before .before .before .before .pre .1 .0, c .before .before .before .before .child .inv .ends, over-step (c .before .before .before .before .child .inv) (c .before .before .before .child-test .taken) (c .span-at5 .ensures))
+folds-onto-add-a-3 t c =
+    let s = c .before .before .before .before .before .before .before .before .before .before .before .before .before in
+    let child = c .before .before .before .before .child in
+    let child-test = c .before .before .before .child-test in
+    omega (arith, s .pre .1 .0, child .inv .ends, over-step (child .inv) (child-test .taken) (c .span-at5 .ensures))
 
--- src/lib.rt:79:5
 folds-onto-child-less-2 : (t : ℕ) → folds-onto-lts.Need-child-less-2 (folds-onto-claims t) (folds-onto-at t) folds-onto.Post folds-onto-Inv-loop folds-onto-μ-loop folds-onto-Inv-child folds-onto-μ-child
-folds-onto-child-less-2 t c = omega (arith, over-step (c .before .before .before .before .child .inv) (c .before .before .before .child-test .taken) (c .span-at5 .ensures))
+folds-onto-child-less-2 t c =
+    let child = c .before .before .before .before .child in
+    let child-test = c .before .before .before .child-test in
+    omega (arith, over-step (child .inv) (child-test .taken) (c .span-at5 .ensures))
 
--- src/lib.rt:79:5
 folds-onto-child-again-2 : (t : ℕ) → folds-onto-lts.Need-child-again-2 (folds-onto-claims t) (folds-onto-at t) folds-onto.Post folds-onto-Inv-loop folds-onto-μ-loop folds-onto-Inv-child folds-onto-μ-child
-folds-onto-child-again-2 t c = over-next (c .before .before .before .before .child .inv) (c .before .before .before .child-test .taken) (c .span-at5 .ensures) (λ q. absurd (eqb-false _ _ (sym (c .before .before .is-child .ensures) ∙ c .before .if2 .left) q))
+folds-onto-child-again-2 t c =
+    let child = c .before .before .before .before .child in
+    let child-test = c .before .before .before .child-test in
+    over-next (child .inv) (child-test .taken) (c .span-at5 .ensures) (λ q. absurd (eqb-false _ _ (sym (c .before .before .is-child .ensures) ∙ c .before .if2 .left) q))
 
--- src/lib.rt:69:1
 folds-onto-returns-3 : (t : ℕ) → folds-onto-lts.Need-returns-3 (folds-onto-claims t) (folds-onto-at t) folds-onto.Post folds-onto-Inv-loop folds-onto-μ-loop folds-onto-Inv-child folds-onto-μ-child
-folds-onto-returns-3 t c = onto-each (c .before .before .before .before .before .before .before .before .before .before .args .code .now) (c .before .before .before .before .before .before .before .before .before .before .args .mark .now) (c .before .before .before .before .before .before .before .before .before .before .args .span .now) (c .before .before .before .before .before .before .before .before .before .before .args .up .now) (c .before .before .before .before .before .before .before .before .before .before .args .u) (c .before .before .before .before .before .before .before .before .before .before .args .v) (c .before .before .before .before .before .before .before .before .before .before .pre .1 .0) (c .before .before .before .before .before .before .before .before .before .before .pre .1 .1) (sym (c .before .before .before .before .before .fits2 .ensures) ∙ not-false _ (c .before .before .before .before .if1 .left)) (over-all (c .before .child .inv) (c .child-test .left))
+folds-onto-returns-3 t c =
+    let s = c .before .before .before .before .before .before .before .before .before .before in
+    let fits2 = c .before .before .before .before .before .fits2 in
+    let if1 = c .before .before .before .before .if1 in
+    onto-each (s .args .code .now) (s .args .mark .now) (s .args .span .now) (s .args .up .now) (s .args .u) (s .args .v) (s .pre .1 .0) (s .pre .1 .1) (sym (fits2 .ensures) ∙ not-false _ (if1 .left)) (over-all (c .before .child .inv) (c .child-test .left))
 
 pub +folds-onto-spec : {M : Type 1} → statement M
 +folds-onto-spec = close μ-folds-onto λ t. folds-onto-lts.spec (folds-onto-claims t) (folds-onto-at t) folds-onto.Post folds-onto-Inv-loop folds-onto-μ-loop folds-onto-Inv-child folds-onto-μ-child

@@ -1,78 +1,60 @@
-use mathlib.Core.Path.{refl, ap}
+-- One row is put at its place: four stores.
+use mathlib.Core.Path.{refl}
 use borrow.Author.Needs.{needs}
 use Rattle.fold.proofs.move_row.Statement.{statement}
 use Rattle.fold.proofs.move_row.Tie as tie
-use Rattle.fold.proofs.move_row.Reads as reads
-use Rattle.fold.proofs.move_row.Lts as lts
-use Rattle.fold.proofs.parent_moved.Reads as parent-moved-reads
 
--- src/lib.rt:166:15
 mul-code : tie.Need-mul-code
 mul-code c = search needs
 
--- src/lib.rt:166:15
 slice-read-code : tie.Need-slice-read-code
 slice-read-code c = search needs
 
--- src/lib.rt:166:5
 mul-code-2 : tie.Need-mul-code-2
 mul-code-2 c = search needs
 
--- src/lib.rt:166:5
 slice-write-code : tie.Need-slice-write-code
 slice-write-code c = search needs
 
--- src/lib.rt:167:15
 slice-read-mark : tie.Need-slice-read-mark
 slice-read-mark c = search needs
 
--- src/lib.rt:167:5
 slice-write-mark : tie.Need-slice-write-mark
 slice-write-mark c = search needs
 
--- src/lib.rt:168:17
 parent-moved-requires : tie.Need-parent-moved-requires
 parent-moved-requires c κs = search needs
 
--- src/lib.rt:168:5
 mul-parent : tie.Need-mul-parent
 mul-parent c = search needs
 
--- src/lib.rt:168:5
 slice-write-parent : tie.Need-slice-write-parent
 slice-write-parent c = search needs
 
--- src/lib.rt:169:16
 cast-moved : tie.Need-cast-moved
 cast-moved c = search needs
 
--- src/lib.rt:169:5
 mul-moved : tie.Need-mul-moved
 mul-moved c = search needs
 
--- src/lib.rt:169:5
 slice-write-moved : tie.Need-slice-write-moved
 slice-write-moved c = search needs
 
--- src/lib.rt:162:1
 same-length : tie.Need-same-length
 same-length c = search needs
 
--- src/lib.rt:162:1
 same-length-2 : tie.Need-same-length-2
 same-length-2 c = search needs
 
--- src/lib.rt:162:1
 same-length-3 : tie.Need-same-length-3
 same-length-3 c = search needs
 
--- src/lib.rt:162:1
 same-length-4 : tie.Need-same-length-4
 same-length-4 c = search needs
 
--- src/lib.rt:162:1
 returns : tie.Need-returns
 returns c = record { codes = refl; marks = refl; parents = rw (c .parent-moved .ensures); moves = refl }
+
 pub move-row-spec : {M : Type 1} → statement M
 move-row-spec =
     tie.close
