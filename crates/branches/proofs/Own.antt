@@ -1,0 +1,146 @@
+-- Laws of a row's factors: what the chain of a branch goes on with, and a node's own factors child by child.
+use mathlib.Core.Path.{_≡_, refl, sym, ap, _∙_}
+use mathlib.Core.Bool.{Bool, true, false, _||_, cond}
+use mathlib.Core.List.{List, [], _∷_, _++_, map}
+use Prim.Native.Nat.{ℕ, suc, _+_, _≤_, _<_}
+use native.Mathlib.Omega.{arith}
+use lib.ListN.{length, getD}
+use Rattle.meaning.specs.Expression.{Expr, child}
+use Rattle.meaning.specs.TreeQuery.{Lab, any, lab}
+use Rattle.meaning.specs.Tree.{Forest, bare, tree, Tag, size}
+use Rattle.meaning.specs.Normal.{labelled, branch, onward, chains, eitherIn, off}
+use Rattle.rows.specs.Rows.{labOf, below, mapT, Holds, width}
+use Rattle.rows.proofs.Rows.{size-holds, holds-first, holds-opens, row-opens, row-kids, Opens}
+use Rattle.branches.specs.Joining.{fill, Written}
+use Rattle.branches.specs.Factors.{Row, tagged, under, labelAt, chainAt, covers, offAt, ownAt}
+use Rattle.branches.proofs.Joining.{Left, left-is, left-fits, left-step}
+use Rattle.branches.proofs.Covers.{either-covers, covers-before}
+
+pub labelled-append : (l : Lab) (xs : List Expr) → labelled l xs ≡ labelled l [] ++ xs
+labelled-append any xs = refl
+labelled-append (lab l) xs = refl
+
+-- a branch does not depend on the marks
+pub chains-same : (f g : ℕ → Tag) → ((i : ℕ) → f i .lab ≡ g i .lab) → (F : Forest ℕ) → chains (mapT f F) ≡ chains (mapT g F)
+unfolding mapT
+chains-same f g h bare = refl
+chains-same f g h (tree i k r) = rw (h i, chains-same f g h k, chains-same f g h r)
+
+-- ------------------------------------------------------------------ one row
+-- row u: it opens, its children are counted
+pub row-open : {code kids span : List ℕ} {u : ℕ} (R : Row code kids span u) → Opens span u (R .n)
+row-open {code} {kids} {span} {u} R = row-opens span (R .n) (R .rows .laid) u (R .within)
+
+pub row-width : {code kids span : List ℕ} {u : ℕ} (R : Row code kids span u) → getD kids u 0 ≡ width (below span u)
+row-width {code} {kids} {span} {u} R = row-kids code (R .mark) kids span (R .up) (R .n) (R .rows) u (R .within) .0
+
+-- a later row of row u's part
+pub row-in : {code kids span : List ℕ} {u : ℕ} → Row code kids span u → (c : ℕ) → c < u + getD span u 0 → Row code kids span c
+row-in R c l = let o = row-open R .inside in record { mark = R .mark; up = R .up; n = R .n; rows = R .rows; within = omega arith }
+
+module _ (code span : List ℕ) (u : ℕ) where
+  pub own-parts : (x y : ℕ) → ownAt code span x y u ≡ labelAt code u ++ off eitherIn (under code span x y u) []
+  unfolding ownAt
+  own-parts x y = labelled-append (labOf (getD code u 0)) (off eitherIn (under code span x y u) [])
+
+  -- "child, the node's label, and then"
+  chain-parts : (xs : List Expr) → onward (chains (under code span u u u)) ≡ xs → chainAt code span u ≡ (child ∷ []) ++ (labelAt code u ++ xs)
+  unfolding chainAt
+  chain-parts xs e = rw e (ap (λ (l : List Expr). child ∷ l) (labelled-append (labOf (getD code u 0)) xs))
+
+-- ------------------------------------------------------------------ its children
+module _ (code span : List ℕ) (x y : ℕ) where
+  -- the first of some brothers, and the others
+  off-first : (c e i : ℕ) (k r : Forest ℕ) → Holds span c e (tree i k r)
+      → off eitherIn (mapT (tagged code x y) (tree i k r)) [] ≡ offAt code span x y c ++ off eitherIn (mapT (tagged code x y) r) []
+  unfolding mapT under offAt chainAt
+  off-first c e i k r h =
+      let z = holds-first span c e i k r h in
+      let E : Expr = branch (child ∷ labelled (labOf (getD code c 0)) (onward (chains (mapT (tagged code c c) (below span c))))) in
+      rw (← h .0, ← z .0, chains-same (tagged code x y) (tagged code c c) (λ j. refl) (below span c), either-covers code span x y c e (z .1)) (go (covers span c x || covers span c y) E)
+    where
+      R : List Expr
+      R = off eitherIn (mapT (tagged code x y) r) []
+
+      go : (b : Bool) (E : Expr) → cond b R (E ∷ R) ≡ cond b [] (E ∷ []) ++ R
+      go true E = refl
+      go false E = refl
+
+  -- A loop over the children of a row: those from row c up to row e are left, and their factors.
+  pub record Off (c e : ℕ) (d₀ : List ℕ) (from at₀ : ℕ) (xs : List Expr) (d : List ℕ) (at : ℕ) : Type 0 where
+    pub forest : Forest ℕ
+    pub held : Holds span c e forest
+    pub left : Left d₀ from at₀ xs d at (off eitherIn (mapT (tagged code x y) forest) [])
+
+  pub off-start : {kids : List ℕ} {u : ℕ} {d₀ : List ℕ} {from at₀ : ℕ} {xs : List Expr} {d : List ℕ} {at : ℕ} → Row code kids span u
+      → Left d₀ from at₀ xs d at (off eitherIn (under code span x y u) []) → Off (suc u) (u + getD span u 0) d₀ from at₀ xs d at
+  unfolding under
+  off-start {kids} {u} R w = record { forest = below span u; held = row-open R .held; left = w }
+
+  module _ {c e : ℕ} {d₀ : List ℕ} {from at₀ : ℕ} {xs : List Expr} {d : List ℕ} {at : ℕ} (O : Off c e d₀ from at₀ xs d at) where
+    pub off-fits : c < e → at₀ + length (fill from at₀ xs) ≤ length d₀ → at + length (fill from at (offAt code span x y c)) ≤ length d
+    off-fits l = go (O .forest) (O .held) (O .left)
+      where
+        go : (F : Forest ℕ) → Holds span c e F → Left d₀ from at₀ xs d at (off eitherIn (mapT (tagged code x y) F) [])
+            → at₀ + length (fill from at₀ xs) ≤ length d₀ → at + length (fill from at (offAt code span x y c)) ≤ length d
+        go bare h w = absurd (omega arith)
+        go (tree i k r) h w = left-fits (offAt code span x y c) _ (left-is (off-first c e i k r h) w)
+
+    pub off-next : {d₁ : List ℕ} {a : ℕ} → c < e → Written d at (fill from at (offAt code span x y c)) d₁ a → Off (c + getD span c 0) e d₀ from at₀ xs d₁ a
+    off-next {d₁} {a} l v = go (O .forest) (O .held) (O .left)
+      where
+        go : (F : Forest ℕ) → Holds span c e F → Left d₀ from at₀ xs d at (off eitherIn (mapT (tagged code x y) F) []) → Off (c + getD span c 0) e d₀ from at₀ xs d₁ a
+        go bare h w = absurd (omega arith)
+        go (tree i k r) h w =
+            record { forest = r; held = holds-first span c e i k r h .2; left = left-step (offAt code span x y c) _ (left-is (off-first c e i k r h) w) v }
+
+    pub off-done : e ≤ c → Left d₀ from at₀ xs d at []
+    unfolding mapT
+    off-done l = go (O .forest) (O .held) (O .left)
+      where
+        go : (F : Forest ℕ) → Holds span c e F → Left d₀ from at₀ xs d at (off eitherIn (mapT (tagged code x y) F) []) → Left d₀ from at₀ xs d at []
+        go bare h w = w
+        go (tree i k r) h w = let s = size-holds span c e (tree i k r) h in absurd (omega arith)
+
+-- ------------------------------------------------------------------ chains
+-- a later row than u is off the way to u
+pub off-later : (code span : List ℕ) (u c : ℕ) → u < c → offAt code span u u c ≡ branch (chainAt code span c) ∷ []
+unfolding offAt
+off-later code span u c l = rw (covers-before span c u l)
+
+module _ (code span : List ℕ) (u : ℕ) where
+  one-onward : (e : ℕ) (F : Forest ℕ) → Holds span (suc u) e F → width F ≡ 1 → onward (chains (mapT (tagged code u u) F)) ≡ chainAt code span (suc u)
+  unfolding under mapT chainAt
+  one-onward e bare h w = absurd (omega arith)
+  one-onward e (tree i k bare) h w =
+      let z = holds-first span (suc u) e i k bare h in
+      rw (← h .0, ← z .0, chains-same (tagged code u u) (tagged code (suc u) (suc u)) (λ j. refl) (below span (suc u)))
+  one-onward e (tree i k (tree j k′ r)) h w = absurd (omega arith)
+
+  all-off : (c e : ℕ) (F : Forest ℕ) → Holds span c e F → u < c → off eitherIn (mapT (tagged code u u) F) [] ≡ map branch (chains (mapT (tagged code u u) F))
+  unfolding mapT under
+  all-off c e bare h l = refl
+  all-off c e (tree i k r) h l =
+      let z = holds-first span c e i k r h in
+      let b = either-covers code span u u c e (z .1) in
+      let n = covers-before span c u l in
+      rw (← h .0, ← z .0, b, n, all-off (c + getD span c 0) e r (z .2) (omega arith))
+
+  more-onward : (e : ℕ) (F : Forest ℕ) → Holds span (suc u) e F → (width F ≡ 1 → ⊥)
+      → onward (chains (mapT (tagged code u u) F)) ≡ off eitherIn (mapT (tagged code u u) F) []
+  unfolding mapT
+  more-onward e bare h w = refl
+  more-onward e (tree i k bare) h w = absurd (w refl)
+  more-onward e (tree i k (tree j k′ r)) h w = sym (all-off (suc u) e (tree i k (tree j k′ r)) h (omega arith))
+
+module _ {code kids span : List ℕ} {u : ℕ} (R : Row code kids span u) where
+  -- "if it has exactly one child, the chain goes on with that child"
+  pub chain-one : getD kids u 0 ≡ 1 → chainAt code span u ≡ (child ∷ []) ++ (labelAt code u ++ chainAt code span (suc u))
+  unfolding under
+  chain-one e = chain-parts code span u (chainAt code span (suc u)) (one-onward code span u _ (below span u) (row-open R .held) (sym (row-width R) ∙ e))
+
+  -- "if it has more, one first projection each, in image order"
+  pub chain-more : (getD kids u 0 ≡ 1 → ⊥) → chainAt code span u ≡ (child ∷ []) ++ (labelAt code u ++ off eitherIn (under code span u u u) [])
+  unfolding under
+  chain-more e =
+      chain-parts code span u (off eitherIn (under code span u u u) []) (more-onward code span u _ (below span u) (row-open R .held) (λ w. e (row-width R ∙ w)))
