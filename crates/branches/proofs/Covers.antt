@@ -59,6 +59,7 @@ module _ (q : Tag → Bool) (f : ℕ → Tag) (x : ℕ) (only : (i : ℕ) → q 
       rw (only i, holds-between (suc i) (suc i + size k) k c, holds-between (suc i + size k) e r d, between-parts i (suc i + size k) e x (omega arith) (omega arith), a)
 
   pub in-covers : (c e : ℕ) → Opens span c e → inTree q (f c) (mapT f (below span c)) ≡ covers span c x
+  unfolding covers
   in-covers c e o =
       let s = o .some in
       let m : ℕ = c + getD span c 0 in
@@ -89,10 +90,13 @@ module _ (code span : List ℕ) (x y c e : ℕ) (o : Opens span c e) where
 
 -- a row covers exactly the rows from it on that its span reaches
 pub covers-in : (span : List ℕ) (c x : ℕ) → c ≤ x → x < c + getD span c 0 → covers span c x ≡ true
+unfolding covers
 covers-in span c x l m = between-in c (c + getD span c 0) x l m
 
 pub covers-before : (span : List ℕ) (c x : ℕ) → x < c → covers span c x ≡ false
+unfolding covers
 covers-before span c x l = between-before c (c + getD span c 0) x l
 
 pub covers-behind : (span : List ℕ) (c x : ℕ) → c + getD span c 0 ≤ x → covers span c x ≡ false
+unfolding covers
 covers-behind span c x l = between-behind c (c + getD span c 0) x l

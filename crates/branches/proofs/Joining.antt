@@ -14,7 +14,7 @@ use Rattle.meaning.specs.Number.{numF, num}
 use Rattle.meaning.specs.Normal.{joined, all, branch, aboveFactor, wordOf}
 use Rattle.groups.specs.Put.{put}
 use Rattle.groups.proofs.Put.{length-put, put-nil, put-append}
-use Rattle.branches.specs.Joining.{joint, run, fill, Written}
+use Rattle.branches.specs.Joining.{joint, run, fill, signed, Written}
 
 -- ------------------------------------------------------------------ words and their bytes
 num-some : (n : ℕ) → 1 ≤ length (num n)
@@ -81,6 +81,13 @@ fill-append from at (x ∷ xs) ys l = go (ltb from at)
         rw (z, run-append xs ys) (simp append-assoc)
 
 -- ------------------------------------------------------------------ writing
+-- something stands before, or nothing does
+pub joint-some : (from at : ℕ) → from < at → joint (ltb from at) ≡ 4 ∷ []
+joint-some from at l = rw (lt-ltb from at l)
+
+pub joint-none : (from at : ℕ) → at ≤ from → joint (ltb from at) ≡ []
+joint-none from at l = rw (le-ltb from at l)
+
 pub written-nil : (d : List ℕ) (at : ℕ) → Written d at [] d at
 written-nil d at = record { place = omega arith; bytes = sym (put-nil d at) }
 
@@ -97,6 +104,33 @@ written-then {d} {xs} {d₁} {ys} {d₂} {at} {a} {r} v w =
 
 pub written-length : {d bs e : List ℕ} {at r : ℕ} → Written d at bs e r → length e ≡ length d
 written-length {d} {bs} {e} {at} w = ap length (w .bytes) ∙ length-put d at bs
+
+-- a sign and what joins it
+module _ (from at sign : ℕ) where
+  pub signed-first : (n : ℕ) → at + length (signed from at sign) ≤ n → at + length (num sign) ≤ n
+  unfolding signed
+  signed-first n l = omega (arith, length-append (num sign) (joint (ltb from at)))
+
+  pub signed-then : {d d₁ d₂ : List ℕ} {a r : ℕ} → a ≡ at + length (num sign) → d₁ ≡ put d at (num sign) → Written d₁ a (joint (ltb from at)) d₂ r
+      → Written d at (signed from at sign) d₂ r
+  unfolding signed
+  signed-then p b w = written-then (record { place = p; bytes = b }) w
+
+  pub signed-rest : (n a : ℕ) → a ≡ at + length (num sign) → at + length (signed from at sign) ≤ n → a + length (joint (ltb from at)) ≤ n
+  unfolding signed
+  signed-rest n a p l = omega (arith, length-append (num sign) (joint (ltb from at)))
+
+pub fill-child : (from at : ℕ) → fill from at (child ∷ []) ≡ signed from at 2
+unfolding signed decLt
+fill-child from at = fill-one from at child
+
+pub fill-parent : (from at : ℕ) → fill from at (parent ∷ []) ≡ signed from at 3
+unfolding signed decLt
+fill-parent from at = fill-one from at parent
+
+pub fill-label : (from at l : ℕ) → fill from at (label l ∷ []) ≡ signed from at (9 + l)
+unfolding signed
+fill-label from at l = fill-one from at (label l)
 
 -- ------------------------------------------------------------------ a list of factors, part by part
 -- Of the factors xs, owed from place at₀ on, some stand in the room; those that are left, ys, belong to place `at`.

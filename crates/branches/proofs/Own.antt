@@ -2,18 +2,18 @@
 use mathlib.Core.Path.{_≡_, refl, sym, ap, _∙_}
 use mathlib.Core.Bool.{Bool, true, false, _||_, cond}
 use mathlib.Core.List.{List, [], _∷_, _++_, map}
-use Prim.Native.Nat.{ℕ, suc, _+_, _≤_, _<_}
+use Prim.Native.Nat.{ℕ, zero, suc, _+_, _≤_, _<_}
 use native.Mathlib.Omega.{arith}
 use lib.ListN.{length, getD}
-use Rattle.meaning.specs.Expression.{Expr, child}
+use Rattle.meaning.specs.Expression.{Expr, child, label}
 use Rattle.meaning.specs.TreeQuery.{Lab, any, lab}
 use Rattle.meaning.specs.Tree.{Forest, bare, tree, Tag, size}
 use Rattle.meaning.specs.Normal.{labelled, branch, onward, chains, eitherIn, off}
 use Rattle.rows.specs.Rows.{labOf, below, mapT, Holds, width}
 use Rattle.rows.proofs.Rows.{size-holds, holds-first, holds-opens, row-opens, row-kids, Opens}
-use Rattle.branches.specs.Joining.{fill, Written}
+use Rattle.branches.specs.Joining.{fill, signed, Written}
 use Rattle.branches.specs.Factors.{Row, tagged, under, labelAt, chainAt, covers, offAt, ownAt}
-use Rattle.branches.proofs.Joining.{Left, left-is, left-fits, left-step}
+use Rattle.branches.proofs.Joining.{fill-nil, fill-label, Left, left-is, left-fits, left-step}
 use Rattle.branches.proofs.Covers.{either-covers, covers-before}
 
 pub labelled-append : (l : Lab) (xs : List Expr) → labelled l xs ≡ labelled l [] ++ xs
@@ -27,6 +27,16 @@ chains-same f g h bare = refl
 chains-same f g h (tree i k r) = rw (h i, chains-same f g h k, chains-same f g h r)
 
 -- ------------------------------------------------------------------ one row
+-- the label: none, or code L + 1 as the sign 9 + L
+pub label-none : (code : List ℕ) (u from at : ℕ) → getD code u 0 ≡ 0 → fill from at (labelAt code u) ≡ []
+unfolding labelAt
+label-none code u from at e = rw e (fill-nil from at)
+
+pub label-some : (code : List ℕ) (u from at x : ℕ) → x ≡ getD code u 0 → (x ≡ 0 → ⊥) → fill from at (labelAt code u) ≡ signed from at (8 + x)
+unfolding labelAt
+label-some code u from at zero e z = absurd (z refl)
+label-some code u from at (suc l) e z = let q : 9 + l ≡ 8 + suc l = omega arith in rw (← e, ← q) (fill-label from at l)
+
 -- row u: it opens, its children are counted
 pub row-open : {code kids span : List ℕ} {u : ℕ} (R : Row code kids span u) → Opens span u (R .n)
 row-open {code} {kids} {span} {u} R = row-opens span (R .n) (R .rows .laid) u (R .within)
@@ -40,12 +50,12 @@ row-in R c l = let o = row-open R .inside in record { mark = R .mark; up = R .up
 
 module _ (code span : List ℕ) (u : ℕ) where
   pub own-parts : (x y : ℕ) → ownAt code span x y u ≡ labelAt code u ++ off eitherIn (under code span x y u) []
-  unfolding ownAt
+  unfolding ownAt labelAt
   own-parts x y = labelled-append (labOf (getD code u 0)) (off eitherIn (under code span x y u) [])
 
   -- "child, the node's label, and then"
   chain-parts : (xs : List Expr) → onward (chains (under code span u u u)) ≡ xs → chainAt code span u ≡ (child ∷ []) ++ (labelAt code u ++ xs)
-  unfolding chainAt
+  unfolding chainAt labelAt
   chain-parts xs e = rw e (ap (λ (l : List Expr). child ∷ l) (labelled-append (labOf (getD code u 0)) xs))
 
 -- ------------------------------------------------------------------ its children

@@ -26,7 +26,7 @@ unfoldable pub under : List ℕ → List ℕ → ℕ → ℕ → ℕ → Forest 
 under code span x y u = mapT (tagged code x y) (below span u)
 
 -- the label of row u as a factor, "if any"
-abbrev pub labelAt : List ℕ → ℕ → List Expr
+unfoldable pub labelAt : List ℕ → ℕ → List Expr
 labelAt code u = labelled (labOf (getD code u 0)) []
 
 -- the chain of a branch that starts at row u: "child, the node's label, and then" what goes on below it. Marks are no part of it
@@ -34,7 +34,7 @@ unfoldable pub chainAt : List ℕ → List ℕ → ℕ → List Expr
 chainAt code span u = child ∷ labelled (labOf (getD code u 0)) (onward (chains (under code span u u u)))
 
 -- row x lies at or below row c
-abbrev pub covers : List ℕ → ℕ → ℕ → Bool
+unfoldable pub covers : List ℕ → ℕ → ℕ → Bool
 covers span c x = leb c x && ltb x (c + getD span c 0)
 
 -- the first projection for row c, if it is off the ways to row x and to row y

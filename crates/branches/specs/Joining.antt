@@ -6,6 +6,7 @@ use Prim.Native.Nat.{ℕ, _+_}
 use lib.ListN.{length}
 use lib.Dec.{ltb}
 use Rattle.meaning.specs.Expression.{Expr}
+use Rattle.meaning.specs.Number.{num}
 use Rattle.meaning.specs.Normal.{wordOf}
 use Rattle.groups.specs.Put.{put}
 
@@ -22,6 +23,10 @@ run after (x ∷ xs) = wordOf x ++ (joint after ++ run true xs)
 -- before them exactly if from < at
 unfoldable pub fill : ℕ → ℕ → List Expr → List ℕ
 fill from at xs = run (ltb from at) xs
+
+-- one sign as a factor
+unfoldable pub signed : ℕ → ℕ → ℕ → List ℕ
+signed from at sign = num sign ++ joint (ltb from at)
 
 -- bs were written into the room d from place `at` on: e is the room afterwards, r the place behind them
 pub record Written (d : List ℕ) (at : ℕ) (bs e : List ℕ) (r : ℕ) : Type 0 where

@@ -1,1 +1,61 @@
-// Branches
+// Branches and a node's own factors, written into the caller's room. Factors are joined from the left: the first of them went to place `from`, so a
+// factor that goes to a later place is followed by the sign 4.
+ghost use mathlib.Core.Path.{_≡_};
+ghost use mathlib.Core.List.{[], _∷_};
+ghost use Prim.Native.Nat.{_+_, _<_, _≤_};
+ghost use lib.ListN.{length, getD};
+ghost use lib.Dec.{ltb};
+ghost use Rattle.meaning.specs.Normal.{branch as branchOf, wordOf};
+ghost use Rattle.branches.specs.Joining.{joint, signed, fill, Written};
+ghost use Rattle.branches.specs.Factors.{Row, labelAt, chainAt, covers, offAt, ownAt};
+
+// How many rows row u and all below it take.
+pub fn span_at(span: &[u16], u: usize) -> usize
+    requires { ⌜ u < length (now span) ⌝ }
+    ensures { λ r. ⌜ (r ≡ getD (now (span .entry)) u 0) × (r < 65536) ⌝ }
+{
+    span[u] as usize
+}
+
+// Row x lies at or below row c.
+pub fn holds(span: &[u16], c: usize, x: usize) -> bool
+    requires { ⌜ (c < length (now span)) × (c < 256) ⌝ }
+    ensures { λ r. ⌜ r ≡ covers (now (span .entry)) c x ⌝ }
+{
+    if x < c {
+        return false;
+    }
+    x < c + span_at(span, c)
+}
+
+// The factor that went to place `at` and ends at place `end` is joined to what stands before it.
+pub fn join(room: &mut [u8], from: usize, at: usize, end: usize) -> usize
+    requires { ⌜ end + length (joint (ltb from at)) ≤ length (now room) ⌝ }
+    ensures { λ r. ⌜ Written (now (room .entry)) end (joint (ltb from at)) (now (room .exit)) r ⌝ }
+{
+    if from < at {
+        return groups::put_byte(room, end, 4);
+    }
+    end
+}
+
+// A factor of one sign.
+pub fn put_sign(room: &mut [u8], from: usize, at: usize, sign: u32) -> usize
+    requires { ⌜ at + length (signed from at sign) ≤ length (now room) ⌝ }
+    ensures { λ r. ⌜ Written (now (room .entry)) at (signed from at sign) (now (room .exit)) r ⌝ }
+{
+    let end = groups::put_number(room, at, sign);
+    join(room, from, at, end)
+}
+
+// "its label, if any": code L + 1 is the sign 9 + L
+fn put_label(code: &[u32], u: usize, room: &mut [u8], from: usize, at: usize) -> usize
+    requires { ⌜ (u < length (now code)) × (getD (now code) u 0 ≤ 65536) × (at + length (fill from at (labelAt (now code) u)) ≤ length (now room)) ⌝ }
+    ensures { λ r. ⌜ Written (now (room .entry)) at (fill from at (labelAt (now (code .entry)) u)) (now (room .exit)) r ⌝ }
+{
+    let x = code[u];
+    if x == 0 {
+        return at;
+    }
+    put_sign(room, from, at, 8 + x)
+}
