@@ -14,7 +14,7 @@ use Rattle.meaning.specs.Number.{numF, num}
 use Rattle.meaning.specs.Normal.{joined, all, branch, aboveFactor, wordOf}
 use Rattle.groups.specs.Put.{put}
 use Rattle.groups.proofs.Put.{length-put, put-nil, put-append}
-use Rattle.branches.specs.Joining.{joint, run, fill, signed, Written}
+use Rattle.branches.specs.Joining.{joint, run, fill, factor, Written}
 
 -- ------------------------------------------------------------------ words and their bytes
 num-some : (n : ℕ) → 1 ≤ length (num n)
@@ -56,8 +56,8 @@ unfolding fill run
 fill-nil from at = refl
 
 -- one factor and the sign that joins it
-pub fill-one : (from at : ℕ) (x : Expr) → fill from at (x ∷ []) ≡ wordOf x ++ joint (ltb from at)
-unfolding fill run
+pub fill-one : (from at : ℕ) (x : Expr) → fill from at (x ∷ []) ≡ factor from at (wordOf x)
+unfolding fill run factor
 fill-one from at x = simp append-nil
 
 run-append : (xs ys : List Expr) → run true (xs ++ ys) ≡ run true xs ++ run true ys
@@ -105,32 +105,27 @@ written-then {d} {xs} {d₁} {ys} {d₂} {at} {a} {r} v w =
 pub written-length : {d bs e : List ℕ} {at r : ℕ} → Written d at bs e r → length e ≡ length d
 written-length {d} {bs} {e} {at} w = ap length (w .bytes) ∙ length-put d at bs
 
--- a sign and what joins it
-module _ (from at sign : ℕ) where
-  pub signed-first : (n : ℕ) → at + length (signed from at sign) ≤ n → at + length (num sign) ≤ n
-  unfolding signed
-  signed-first n l = omega (arith, length-append (num sign) (joint (ltb from at)))
+-- a factor, and then the sign that joins it
+module _ (from at : ℕ) (bs : List ℕ) where
+  pub factor-first : (n : ℕ) → at + length (factor from at bs) ≤ n → at + length bs ≤ n
+  unfolding factor
+  factor-first n l = omega (arith, length-append bs (joint (ltb from at)))
 
-  pub signed-then : {d d₁ d₂ : List ℕ} {a r : ℕ} → a ≡ at + length (num sign) → d₁ ≡ put d at (num sign) → Written d₁ a (joint (ltb from at)) d₂ r
-      → Written d at (signed from at sign) d₂ r
-  unfolding signed
-  signed-then p b w = written-then (record { place = p; bytes = b }) w
+  pub factor-rest : (n a : ℕ) → a ≡ at + length bs → at + length (factor from at bs) ≤ n → a + length (joint (ltb from at)) ≤ n
+  unfolding factor
+  factor-rest n a p l = omega (arith, length-append bs (joint (ltb from at)))
 
-  pub signed-rest : (n a : ℕ) → a ≡ at + length (num sign) → at + length (signed from at sign) ≤ n → a + length (joint (ltb from at)) ≤ n
-  unfolding signed
-  signed-rest n a p l = omega (arith, length-append (num sign) (joint (ltb from at)))
+  pub factor-then : {d d₁ d₂ : List ℕ} {a r : ℕ} → Written d at bs d₁ a → Written d₁ a (joint (ltb from at)) d₂ r → Written d at (factor from at bs) d₂ r
+  unfolding factor
+  factor-then v w = written-then v w
 
-pub fill-child : (from at : ℕ) → fill from at (child ∷ []) ≡ signed from at 2
-unfolding signed decLt
+pub fill-child : (from at : ℕ) → fill from at (child ∷ []) ≡ factor from at (num 2)
+unfolding decLt
 fill-child from at = fill-one from at child
 
-pub fill-parent : (from at : ℕ) → fill from at (parent ∷ []) ≡ signed from at 3
-unfolding signed decLt
+pub fill-parent : (from at : ℕ) → fill from at (parent ∷ []) ≡ factor from at (num 3)
+unfolding decLt
 fill-parent from at = fill-one from at parent
-
-pub fill-label : (from at l : ℕ) → fill from at (label l ∷ []) ≡ signed from at (9 + l)
-unfolding signed
-fill-label from at l = fill-one from at (label l)
 
 -- ------------------------------------------------------------------ a list of factors, part by part
 -- Of the factors xs, owed from place at₀ on, some stand in the room; those that are left, ys, belong to place `at`.

@@ -1,19 +1,21 @@
 -- Laws of a row's factors: what the chain of a branch goes on with, and a node's own factors child by child.
 use mathlib.Core.Path.{_≡_, refl, sym, ap, _∙_}
 use mathlib.Core.Bool.{Bool, true, false, _||_, cond}
-use mathlib.Core.List.{List, [], _∷_, _++_, map}
+use mathlib.Core.List.{List, [], _∷_, _++_, map, append-nil}
 use Prim.Native.Nat.{ℕ, zero, suc, _+_, _≤_, _<_}
 use native.Mathlib.Omega.{arith}
-use lib.ListN.{length, getD}
+use lib.ListN.{length, getD, length-append}
+use lib.Dec.{ltb}
 use Rattle.meaning.specs.Expression.{Expr, child, label}
 use Rattle.meaning.specs.TreeQuery.{Lab, any, lab}
 use Rattle.meaning.specs.Tree.{Forest, bare, tree, Tag, size}
-use Rattle.meaning.specs.Normal.{labelled, branch, onward, chains, eitherIn, off}
+use Rattle.meaning.specs.Number.{num}
+use Rattle.meaning.specs.Normal.{all, labelled, branch, onward, chains, eitherIn, off, wordOf}
 use Rattle.rows.specs.Rows.{labOf, below, mapT, Holds, width}
 use Rattle.rows.proofs.Rows.{size-holds, holds-first, holds-opens, row-opens, row-kids, Opens}
-use Rattle.branches.specs.Joining.{fill, signed, Written}
-use Rattle.branches.specs.Factors.{Row, tagged, under, labelAt, chainAt, covers, offAt, ownAt}
-use Rattle.branches.proofs.Joining.{fill-nil, fill-label, Left, left-is, left-fits, left-step}
+use Rattle.branches.specs.Joining.{joint, fill, factor, Written}
+use Rattle.branches.specs.Factors.{Row, tagged, under, labelAt, onwardAt, chainAt, covers, offAt, ownAt}
+use Rattle.branches.proofs.Joining.{fill-nil, fill-one, fill-child, fill-first, factor-first, factor-rest, factor-then, written-is, Left, left-start, left-is, left-fits, left-step, left-end}
 use Rattle.branches.proofs.Covers.{either-covers, covers-before}
 
 pub labelled-append : (l : Lab) (xs : List Expr) → labelled l xs ≡ labelled l [] ++ xs
@@ -32,10 +34,10 @@ pub label-none : (code : List ℕ) (u from at : ℕ) → getD code u 0 ≡ 0 →
 unfolding labelAt
 label-none code u from at e = rw e (fill-nil from at)
 
-pub label-some : (code : List ℕ) (u from at x : ℕ) → x ≡ getD code u 0 → (x ≡ 0 → ⊥) → fill from at (labelAt code u) ≡ signed from at (8 + x)
+pub label-some : (code : List ℕ) (u from at x : ℕ) → x ≡ getD code u 0 → (x ≡ 0 → ⊥) → fill from at (labelAt code u) ≡ factor from at (num (8 + x))
 unfolding labelAt
 label-some code u from at zero e z = absurd (z refl)
-label-some code u from at (suc l) e z = let q : 9 + l ≡ 8 + suc l = omega arith in rw (← e, ← q) (fill-label from at l)
+label-some code u from at (suc l) e z = let q : 9 + l ≡ 8 + suc l = omega arith in rw (← e, ← q) (fill-one from at (label l))
 
 -- row u: it opens, its children are counted
 pub row-open : {code kids span : List ℕ} {u : ℕ} (R : Row code kids span u) → Opens span u (R .n)
@@ -54,16 +56,16 @@ module _ (code span : List ℕ) (u : ℕ) where
   own-parts x y = labelled-append (labOf (getD code u 0)) (off eitherIn (under code span x y u) [])
 
   -- "child, the node's label, and then"
-  chain-parts : (xs : List Expr) → onward (chains (under code span u u u)) ≡ xs → chainAt code span u ≡ (child ∷ []) ++ (labelAt code u ++ xs)
+  chain-parts : chainAt code span u ≡ (child ∷ []) ++ (labelAt code u ++ onwardAt code span u)
   unfolding chainAt labelAt
-  chain-parts xs e = rw e (ap (λ (l : List Expr). child ∷ l) (labelled-append (labOf (getD code u 0)) xs))
+  chain-parts = ap (λ (l : List Expr). child ∷ l) (labelled-append (labOf (getD code u 0)) (onwardAt code span u))
 
 -- ------------------------------------------------------------------ its children
 module _ (code span : List ℕ) (x y : ℕ) where
   -- the first of some brothers, and the others
   off-first : (c e i : ℕ) (k r : Forest ℕ) → Holds span c e (tree i k r)
       → off eitherIn (mapT (tagged code x y) (tree i k r)) [] ≡ offAt code span x y c ++ off eitherIn (mapT (tagged code x y) r) []
-  unfolding mapT under offAt chainAt
+  unfolding mapT under offAt chainAt onwardAt
   off-first c e i k r h =
       let z = holds-first span c e i k r h in
       let E : Expr = branch (child ∷ labelled (labOf (getD code c 0)) (onward (chains (mapT (tagged code c c) (below span c))))) in
@@ -83,9 +85,9 @@ module _ (code span : List ℕ) (x y : ℕ) where
     pub left : Left d₀ from at₀ xs d at (off eitherIn (mapT (tagged code x y) forest) [])
 
   pub off-start : {kids : List ℕ} {u : ℕ} {d₀ : List ℕ} {from at₀ : ℕ} {xs : List Expr} {d : List ℕ} {at : ℕ} → Row code kids span u
-      → Left d₀ from at₀ xs d at (off eitherIn (under code span x y u) []) → Off (suc u) (u + getD span u 0) d₀ from at₀ xs d at
+      → Left d₀ from at₀ xs d at (off eitherIn (under code span x y u) []) → Off (u + 1) (u + getD span u 0) d₀ from at₀ xs d at
   unfolding under
-  off-start {kids} {u} R w = record { forest = below span u; held = row-open R .held; left = w }
+  off-start {kids} {u} R w = let z : u + 1 ≡ suc u = omega arith in rw z (record { forest = below span u; held = row-open R .held; left = w })
 
   module _ {c e : ℕ} {d₀ : List ℕ} {from at₀ : ℕ} {xs : List Expr} {d : List ℕ} {at : ℕ} (O : Off c e d₀ from at₀ xs d at) where
     pub off-fits : c < e → at₀ + length (fill from at₀ xs) ≤ length d₀ → at + length (fill from at (offAt code span x y c)) ≤ length d
@@ -113,14 +115,9 @@ module _ (code span : List ℕ) (x y : ℕ) where
         go (tree i k r) h w = let s = size-holds span c e (tree i k r) h in absurd (omega arith)
 
 -- ------------------------------------------------------------------ chains
--- a later row than u is off the way to u
-pub off-later : (code span : List ℕ) (u c : ℕ) → u < c → offAt code span u u c ≡ branch (chainAt code span c) ∷ []
-unfolding offAt
-off-later code span u c l = rw (covers-before span c u l)
-
 module _ (code span : List ℕ) (u : ℕ) where
   one-onward : (e : ℕ) (F : Forest ℕ) → Holds span (suc u) e F → width F ≡ 1 → onward (chains (mapT (tagged code u u) F)) ≡ chainAt code span (suc u)
-  unfolding under mapT chainAt
+  unfolding under mapT chainAt onwardAt
   one-onward e bare h w = absurd (omega arith)
   one-onward e (tree i k bare) h w =
       let z = holds-first span (suc u) e i k bare h in
@@ -145,12 +142,69 @@ module _ (code span : List ℕ) (u : ℕ) where
 
 module _ {code kids span : List ℕ} {u : ℕ} (R : Row code kids span u) where
   -- "if it has exactly one child, the chain goes on with that child"
-  pub chain-one : getD kids u 0 ≡ 1 → chainAt code span u ≡ (child ∷ []) ++ (labelAt code u ++ chainAt code span (suc u))
-  unfolding under
-  chain-one e = chain-parts code span u (chainAt code span (suc u)) (one-onward code span u _ (below span u) (row-open R .held) (sym (row-width R) ∙ e))
+  pub onward-one : getD kids u 0 ≡ 1 → onwardAt code span u ≡ chainAt code span (u + 1)
+  unfolding onwardAt under
+  onward-one e = let z : u + 1 ≡ suc u = omega arith in rw z (one-onward code span u _ (below span u) (row-open R .held) (sym (row-width R) ∙ e))
 
   -- "if it has more, one first projection each, in image order"
-  pub chain-more : (getD kids u 0 ≡ 1 → ⊥) → chainAt code span u ≡ (child ∷ []) ++ (labelAt code u ++ off eitherIn (under code span u u u) [])
-  unfolding under
-  chain-more e =
-      chain-parts code span u (off eitherIn (under code span u u u) []) (more-onward code span u _ (below span u) (row-open R .held) (λ w. e (row-width R ∙ w)))
+  onward-more : (getD kids u 0 ≡ 1 → ⊥) → onwardAt code span u ≡ off eitherIn (under code span u u u) []
+  unfolding onwardAt under
+  onward-more e = more-onward code span u _ (below span u) (row-open R .held) (λ w. e (row-width R ∙ w))
+
+  pub more-start : (d : List ℕ) (from at : ℕ) → from ≤ at → (getD kids u 0 ≡ 1 → ⊥)
+      → Off code span u u (u + 1) (u + getD span u 0) d from at (onwardAt code span u) d at
+  more-start d from at l e = off-start code span u u R (left-start d from at _ _ (onward-more e) l)
+
+  -- the rows below row u
+  pub row-below : (c : ℕ) → u < c → c < u + getD span u 0 → (1 ≤ getD span c 0) × (c + getD span c 0 ≤ u + getD span u 0)
+  row-below c l m = let o = holds-opens span (suc u) (u + getD span u 0) (below span u) (row-open R .held) c l m in (o .some, o .inside)
+
+  pub row-one : getD kids u 0 ≡ 1 → u + 1 < u + getD span u 0
+  row-one e = go (below span u) (row-open R .held) (sym (row-width R) ∙ e)
+    where
+      go : (F : Forest ℕ) → Holds span (suc u) (u + getD span u 0) F → width F ≡ 1 → u + 1 < u + getD span u 0
+      go bare h w = absurd (omega arith)
+      go (tree i k r) h w = let s = size-holds span (suc u) (u + getD span u 0) (tree i k r) h in omega arith
+
+-- ------------------------------------------------------------------ writing a chain and a branch
+module _ (code span : List ℕ) (u : ℕ) (d : List ℕ) (from at : ℕ) (le : from ≤ at) where
+  chain-start : Left d from at (chainAt code span u) d at ((child ∷ []) ++ (labelAt code u ++ onwardAt code span u))
+  chain-start = left-start d from at _ _ (chain-parts code span u) le
+
+  pub child-fits : at + length (fill from at (chainAt code span u)) ≤ length d → at + length (factor from at (num 2)) ≤ length d
+  child-fits l = rw (← fill-child from at) (left-fits (child ∷ []) _ chain-start l)
+
+  module _ {d₁ : List ℕ} {a : ℕ} (v : Written d at (factor from at (num 2)) d₁ a) where
+    label-left : Left d from at (chainAt code span u) d₁ a (labelAt code u ++ onwardAt code span u)
+    label-left = left-step (child ∷ []) _ chain-start (written-is (sym (fill-child from at)) v)
+
+    pub label-fits : at + length (fill from at (chainAt code span u)) ≤ length d → a + length (fill from a (labelAt code u)) ≤ length d₁
+    label-fits l = left-fits (labelAt code u) _ label-left l
+
+    module _ {d₂ : List ℕ} {b : ℕ} (w : Written d₁ a (fill from a (labelAt code u)) d₂ b) where
+      onward-left : Left d from at (chainAt code span u) d₂ b (onwardAt code span u ++ [])
+      onward-left = left-is (sym (append-nil (onwardAt code span u))) (left-step (labelAt code u) _ label-left w)
+
+      pub onward-reached : from ≤ b
+      onward-reached = onward-left .reached
+
+      pub onward-fits : at + length (fill from at (chainAt code span u)) ≤ length d → b + length (fill from b (onwardAt code span u)) ≤ length d₂
+      onward-fits l = left-fits (onwardAt code span u) [] onward-left l
+
+      pub chain-done : {d₃ : List ℕ} {r : ℕ} → Written d₂ b (fill from b (onwardAt code span u)) d₃ r → Written d at (fill from at (chainAt code span u)) d₃ r
+      chain-done z = left-end (left-step (onwardAt code span u) [] onward-left z)
+
+-- "A branch is written as a chain", under one first projection
+pub branch-parts : (code span : List ℕ) (u at : ℕ) → wordOf (branch (chainAt code span u)) ≡ fill at at (chainAt code span u) ++ (5 ∷ [])
+unfolding chainAt
+branch-parts code span u at = rw (fill-first at child (labelled (labOf (getD code u 0)) (onwardAt code span u)))
+
+-- a branch off the ways, joined
+module _ (code span : List ℕ) (x y c from at : ℕ) (ex : covers span c x ≡ false) (ey : covers span c y ≡ false) where
+  pub off-branch : fill from at (offAt code span x y c) ≡ factor from at (wordOf (branch (chainAt code span c)))
+  unfolding offAt
+  off-branch = rw (ex, ey) (fill-one from at (branch (chainAt code span c)))
+
+pub off-none : (code span : List ℕ) (x y c from at : ℕ) → (covers span c x || covers span c y) ≡ true → fill from at (offAt code span x y c) ≡ []
+unfolding offAt
+off-none code span x y c from at e = rw e (fill-nil from at)

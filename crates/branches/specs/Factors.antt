@@ -29,9 +29,14 @@ under code span x y u = mapT (tagged code x y) (below span u)
 unfoldable pub labelAt : List ℕ → ℕ → List Expr
 labelAt code u = labelled (labOf (getD code u 0)) []
 
--- the chain of a branch that starts at row u: "child, the node's label, and then" what goes on below it. Marks are no part of it
+-- what goes on below row u in a chain: "if it has exactly one child, the chain goes on with that child; if it has more, one first projection each".
+-- Marks are no part of it
+unfoldable pub onwardAt : List ℕ → List ℕ → ℕ → List Expr
+onwardAt code span u = onward (chains (under code span u u u))
+
+-- the chain of a branch that starts at row u: "child, the node's label, and then" what goes on below it
 unfoldable pub chainAt : List ℕ → List ℕ → ℕ → List Expr
-chainAt code span u = child ∷ labelled (labOf (getD code u 0)) (onward (chains (under code span u u u)))
+chainAt code span u = child ∷ labelled (labOf (getD code u 0)) (onwardAt code span u)
 
 -- row x lies at or below row c
 unfoldable pub covers : List ℕ → ℕ → ℕ → Bool

@@ -6,7 +6,6 @@ use Prim.Native.Nat.{ℕ, _+_}
 use lib.ListN.{length}
 use lib.Dec.{ltb}
 use Rattle.meaning.specs.Expression.{Expr}
-use Rattle.meaning.specs.Number.{num}
 use Rattle.meaning.specs.Normal.{wordOf}
 use Rattle.groups.specs.Put.{put}
 
@@ -24,9 +23,9 @@ run after (x ∷ xs) = wordOf x ++ (joint after ++ run true xs)
 unfoldable pub fill : ℕ → ℕ → List Expr → List ℕ
 fill from at xs = run (ltb from at) xs
 
--- one sign as a factor
-unfoldable pub signed : ℕ → ℕ → ℕ → List ℕ
-signed from at sign = num sign ++ joint (ltb from at)
+-- the bytes of one such factor and the sign that joins it
+unfoldable pub factor : ℕ → ℕ → List ℕ → List ℕ
+factor from at bs = bs ++ joint (ltb from at)
 
 -- bs were written into the room d from place `at` on: e is the room afterwards, r the place behind them
 pub record Written (d : List ℕ) (at : ℕ) (bs e : List ℕ) (r : ℕ) : Type 0 where

@@ -5,8 +5,9 @@ ghost use mathlib.Core.List.{[], _∷_};
 ghost use Prim.Native.Nat.{_+_, _<_, _≤_};
 ghost use lib.ListN.{length, getD};
 ghost use lib.Dec.{ltb};
+ghost use Rattle.meaning.specs.Number.{num};
 ghost use Rattle.meaning.specs.Normal.{branch as branchOf, wordOf};
-ghost use Rattle.branches.specs.Joining.{joint, signed, fill, Written};
+ghost use Rattle.branches.specs.Joining.{joint, factor, fill, Written};
 ghost use Rattle.branches.specs.Factors.{Row, labelAt, chainAt, covers, offAt, ownAt};
 
 // How many rows row u and all below it take.
@@ -41,8 +42,8 @@ pub fn join(room: &mut [u8], from: usize, at: usize, end: usize) -> usize
 
 // A factor of one sign.
 pub fn put_sign(room: &mut [u8], from: usize, at: usize, sign: u32) -> usize
-    requires { ⌜ at + length (signed from at sign) ≤ length (now room) ⌝ }
-    ensures { λ r. ⌜ Written (now (room .entry)) at (signed from at sign) (now (room .exit)) r ⌝ }
+    requires { ⌜ at + length (factor from at (num sign)) ≤ length (now room) ⌝ }
+    ensures { λ r. ⌜ Written (now (room .entry)) at (factor from at (num sign)) (now (room .exit)) r ⌝ }
 {
     let end = groups::put_number(room, at, sign);
     join(room, from, at, end)
@@ -59,3 +60,4 @@ fn put_label(code: &[u32], u: usize, room: &mut [u8], from: usize, at: usize) ->
     }
     put_sign(room, from, at, 8 + x)
 }
+
