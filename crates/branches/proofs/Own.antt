@@ -15,7 +15,7 @@ use Rattle.rows.specs.Rows.{labOf, below, mapT, Holds, width}
 use Rattle.rows.proofs.Rows.{size-holds, holds-first, holds-opens, row-opens, row-kids, Opens}
 use Rattle.branches.specs.Joining.{joint, fill, factor, Written}
 use Rattle.branches.specs.Factors.{Row, tagged, under, labelAt, onwardAt, chainAt, covers, offAt, ownAt}
-use Rattle.branches.proofs.Joining.{fill-nil, fill-one, fill-child, fill-first, factor-first, factor-rest, factor-then, written-is, Left, left-start, left-is, left-fits, left-step, left-end}
+use Rattle.branches.proofs.Joining.{fill-nil, fill-one, fill-child, fill-first, factor-first, factor-rest, factor-then, written-is, written-then, written-length, Left, left-start, left-is, left-fits, left-step, left-end}
 use Rattle.branches.proofs.Covers.{either-covers, covers-before}
 
 pub labelled-append : (l : Lab) (xs : List Expr) → labelled l xs ≡ labelled l [] ++ xs
@@ -106,9 +106,9 @@ module _ (code span : List ℕ) (x y : ℕ) where
         go (tree i k r) h w =
             record { forest = r; held = holds-first span c e i k r h .2; left = left-step (offAt code span x y c) _ (left-is (off-first c e i k r h) w) v }
 
-    pub off-done : e ≤ c → Left d₀ from at₀ xs d at []
+    pub off-end : e ≤ c → Left d₀ from at₀ xs d at []
     unfolding mapT
-    off-done l = go (O .forest) (O .held) (O .left)
+    off-end l = go (O .forest) (O .held) (O .left)
       where
         go : (F : Forest ℕ) → Holds span c e F → Left d₀ from at₀ xs d at (off eitherIn (mapT (tagged code x y) F) []) → Left d₀ from at₀ xs d at []
         go bare h w = w
@@ -199,11 +199,38 @@ pub branch-parts : (code span : List ℕ) (u at : ℕ) → wordOf (branch (chain
 unfolding chainAt
 branch-parts code span u at = rw (fill-first at child (labelled (labOf (getD code u 0)) (onwardAt code span u)))
 
+-- a chain under one first projection
+module _ (code span : List ℕ) (u at n : ℕ) (l : at + length (wordOf (branch (chainAt code span u))) ≤ n) where
+  pub chain-fits : at + length (fill at at (chainAt code span u)) ≤ n
+  chain-fits = omega (arith, ap length (branch-parts code span u at), length-append (fill at at (chainAt code span u)) (5 ∷ []))
+
+  pub five-fits : (a : ℕ) → a ≡ at + length (fill at at (chainAt code span u)) → a < n
+  five-fits a e = omega (arith, ap length (branch-parts code span u at), length-append (fill at at (chainAt code span u)) (5 ∷ []))
+
+pub branch-done : (code span : List ℕ) (u : ℕ) {d d₁ d₂ : List ℕ} {at a r : ℕ} → Written d at (fill at at (chainAt code span u)) d₁ a → Written d₁ a (5 ∷ []) d₂ r
+    → Written d at (wordOf (branch (chainAt code span u))) d₂ r
+branch-done code span u {at = at} v w = written-is (sym (branch-parts code span u at)) (written-then v w)
+
 -- a branch off the ways, joined
-module _ (code span : List ℕ) (x y c from at : ℕ) (ex : covers span c x ≡ false) (ey : covers span c y ≡ false) where
-  pub off-branch : fill from at (offAt code span x y c) ≡ factor from at (wordOf (branch (chainAt code span c)))
+module _ (code span : List ℕ) (x y c from at : ℕ) (ex : covers span c x ≡ false) (ey : covers span c y ≡ false) (d : List ℕ) where
+  off-branch : fill from at (offAt code span x y c) ≡ factor from at (wordOf (branch (chainAt code span c)))
   unfolding offAt
   off-branch = rw (ex, ey) (fill-one from at (branch (chainAt code span c)))
+
+  pub off-done : {d₁ d₂ : List ℕ} {a r : ℕ} → Written d at (wordOf (branch (chainAt code span c))) d₁ a → Written d₁ a (joint (ltb from at)) d₂ r
+      → Written d at (fill from at (offAt code span x y c)) d₂ r
+  off-done v w = written-is (sym off-branch) (factor-then from at (wordOf (branch (chainAt code span c))) v w)
+
+  module _ (l : at + length (fill from at (offAt code span x y c)) ≤ length d) where
+    l′ : at + length (factor from at (wordOf (branch (chainAt code span c)))) ≤ length d
+    l′ = rw off-branch at l
+
+    pub branch-fits : at + length (wordOf (branch (chainAt code span c))) ≤ length d
+    branch-fits = factor-first from at (wordOf (branch (chainAt code span c))) _ l′
+
+    pub joint-fits : {d₁ : List ℕ} {a : ℕ} → Written d at (wordOf (branch (chainAt code span c))) d₁ a → a + length (joint (ltb from at)) ≤ length d₁
+    joint-fits {d₁} {a} v =
+        let s = written-length v in factor-rest from at (wordOf (branch (chainAt code span c))) (length d₁) a (v .place) (omega (arith, l′))
 
 pub off-none : (code span : List ℕ) (x y c from at : ℕ) → (covers span c x || covers span c y) ≡ true → fill from at (offAt code span x y c) ≡ []
 unfolding offAt

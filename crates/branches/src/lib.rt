@@ -61,3 +61,47 @@ fn put_label(code: &[u32], u: usize, room: &mut [u8], from: usize, at: usize) ->
     put_sign(room, from, at, 8 + x)
 }
 
+// "A branch is written as a chain", under one first projection.
+pub fn branch(
+    code: &[u32],
+    kids: &[u16],
+    span: &[u16],
+    u: usize,
+    room: &mut [u8],
+    at: usize,
+) -> usize
+    requires { ⌜ Row (now code) (now kids) (now span) u × (at + length (wordOf (branchOf (chainAt (now code) (now span) u))) ≤ length (now room)) ⌝ }
+    ensures { λ r. ⌜ Written (now (room .entry)) at (wordOf (branchOf (chainAt (now (code .entry)) (now (span .entry)) u))) (now (room .exit)) r ⌝ }
+{
+    let end = chain(code, kids, span, u, room, at, at);
+    groups::put_byte(room, end, 5)
+}
+
+// "Child, the node's label, and then, if it has exactly one child, the chain goes on with that child; if it has more, one first projection each."
+fn chain(
+    code: &[u32],
+    kids: &[u16],
+    span: &[u16],
+    u: usize,
+    room: &mut [u8],
+    from: usize,
+    at: usize,
+) -> usize
+    requires { ⌜ Row (now code) (now kids) (now span) u × (from ≤ at) × (at + length (fill from at (chainAt (now code) (now span) u)) ≤ length (now room)) ⌝ }
+    ensures { λ r. ⌜ Written (now (room .entry)) at (fill from at (chainAt (now (code .entry)) (now (span .entry)) u)) (now (room .exit)) r ⌝ }
+{
+    let below = put_sign(room, from, at, 2);
+    let end = put_label(code, u, room, from, below);
+    if kids[u] == 1 {
+        return chain(code, kids, span, u + 1, room, from, end);
+    }
+    let stop = u + span_at(span, u);
+    let mut c = u + 1;
+    let mut place = end;
+    while c < stop {
+        let past = branch(code, kids, span, c, room, place);
+        place = join(room, from, place, past);
+        c += span_at(span, c);
+    }
+    place
+}
