@@ -105,6 +105,9 @@ written-then {d} {xs} {d₁} {ys} {d₂} {at} {a} {r} v w =
 pub written-length : {d bs e : List ℕ} {at r : ℕ} → Written d at bs e r → length e ≡ length d
 written-length {d} {bs} {e} {at} w = ap length (w .bytes) ∙ length-put d at bs
 
+pub written-reached : {d bs e : List ℕ} {from at r : ℕ} → from ≤ at → Written d at bs e r → from ≤ r
+written-reached {from = from} {at = at} {r = r} l w = omega (arith, w .place)
+
 -- a factor, and then the sign that joins it
 module _ (from at : ℕ) (bs : List ℕ) where
   pub factor-first : (n : ℕ) → at + length (factor from at bs) ≤ n → at + length bs ≤ n
@@ -126,6 +129,24 @@ fill-child from at = fill-one from at child
 pub fill-parent : (from at : ℕ) → fill from at (parent ∷ []) ≡ factor from at (num 3)
 unfolding decLt
 fill-parent from at = fill-one from at parent
+
+-- ------------------------------------------------------------------ factors in two parts
+module _ {xs : List Expr} (ys zs : List Expr) (e : xs ≡ ys ++ zs) (d : List ℕ) {from at : ℕ} (le : from ≤ at) where
+  both-parts : fill from at xs ≡ fill from at ys ++ fill from (at + length (fill from at ys)) zs
+  both-parts = ap (fill from at) e ∙ fill-append from at ys zs le
+
+  pub first-fits : at + length (fill from at xs) ≤ length d → at + length (fill from at ys) ≤ length d
+  first-fits l = omega (arith, ap length both-parts, length-append (fill from at ys) (fill from (at + length (fill from at ys)) zs))
+
+  module _ {d₁ : List ℕ} {a : ℕ} (v : Written d at (fill from at ys) d₁ a) where
+    parts : fill from at xs ≡ fill from at ys ++ fill from a zs
+    parts = rw (v .place) both-parts
+
+    pub rest-fits : at + length (fill from at xs) ≤ length d → a + length (fill from a zs) ≤ length d₁
+    rest-fits l = let p = v .place in let s = written-length v in omega (arith, ap length parts, length-append (fill from at ys) (fill from a zs))
+
+    pub rest-done : {d₂ : List ℕ} {r : ℕ} → Written d₁ a (fill from a zs) d₂ r → Written d at (fill from at xs) d₂ r
+    rest-done w = written-is (sym parts) (written-then v w)
 
 -- ------------------------------------------------------------------ a list of factors, part by part
 -- Of the factors xs, owed from place at₀ on, some stand in the room; those that are left, ys, belong to place `at`.

@@ -1,3 +1,3 @@
 pub mod Joining
 pub mod Covers
-pub mod Own
+pub mod Chains

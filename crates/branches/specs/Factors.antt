@@ -1,6 +1,6 @@
 -- The factors of a row: the chain of a branch, and "a node's own factors".
 use mathlib.Core.Bool.{Bool, _&&_, _||_, cond}
-use mathlib.Core.List.{List, [], _∷_}
+use mathlib.Core.List.{List, [], _∷_, _++_}
 use Prim.Native.Nat.{ℕ, _+_, _<_}
 use lib.ListN.{getD}
 use lib.Dec.{leb, ltb, eqb}
@@ -46,6 +46,10 @@ covers span c x = leb c x && ltb x (c + getD span c 0)
 unfoldable pub offAt : List ℕ → List ℕ → ℕ → ℕ → ℕ → List Expr
 offAt code span x y c = cond (covers span c x || covers span c y) [] (branch (chainAt code span c) ∷ [])
 
--- "A node's own factors are its label, if any, and then one first projection for each child off those ways", the ways to row x and to row y
+-- "one first projection for each child off those ways, in image order", the ways to row x and to row y
+unfoldable pub branchesAt : List ℕ → List ℕ → ℕ → ℕ → ℕ → List Expr
+branchesAt code span x y u = off eitherIn (under code span x y u) []
+
+-- "A node's own factors are its label, if any, and then" those
 unfoldable pub ownAt : List ℕ → List ℕ → ℕ → ℕ → ℕ → List Expr
-ownAt code span x y u = labelled (labOf (getD code u 0)) (off eitherIn (under code span x y u) [])
+ownAt code span x y u = labelAt code u ++ branchesAt code span x y u

@@ -105,3 +105,53 @@ fn chain(
     }
     place
 }
+
+// The first projection for row c, if it is off the ways to row x and to row y.
+fn put_off(
+    code: &[u32],
+    kids: &[u16],
+    span: &[u16],
+    c: usize,
+    x: usize,
+    y: usize,
+    room: &mut [u8],
+    from: usize,
+    at: usize,
+) -> usize
+    requires { ⌜ Row (now code) (now kids) (now span) c × (at + length (fill from at (offAt (now code) (now span) x y c)) ≤ length (now room)) ⌝ }
+    ensures { λ r. ⌜ Written (now (room .entry)) at (fill from at (offAt (now (code .entry)) (now (span .entry)) x y c)) (now (room .exit)) r ⌝ }
+{
+    if holds(span, c, x) {
+        return at;
+    }
+    if holds(span, c, y) {
+        return at;
+    }
+    let end = branch(code, kids, span, c, room, at);
+    join(room, from, at, end)
+}
+
+// "A node's own factors are its label, if any, and then one first projection for each child off those ways", the ways to row x and to row y.
+pub fn own(
+    code: &[u32],
+    kids: &[u16],
+    span: &[u16],
+    u: usize,
+    x: usize,
+    y: usize,
+    room: &mut [u8],
+    from: usize,
+    at: usize,
+) -> usize
+    requires { ⌜ Row (now code) (now kids) (now span) u × (from ≤ at) × (at + length (fill from at (ownAt (now code) (now span) x y u)) ≤ length (now room)) ⌝ }
+    ensures { λ r. ⌜ Written (now (room .entry)) at (fill from at (ownAt (now (code .entry)) (now (span .entry)) x y u)) (now (room .exit)) r ⌝ }
+{
+    let mut place = put_label(code, u, room, from, at);
+    let stop = u + span_at(span, u);
+    let mut c = u + 1;
+    while c < stop {
+        place = put_off(code, kids, span, c, x, y, room, from, place);
+        c += span_at(span, c);
+    }
+    place
+}

@@ -4,10 +4,10 @@ use native.Mathlib.Omega.{arith}
 use borrow.Author.Needs.{needs}
 use lib.ListN.{length, getD}
 use Rattle.branches.specs.Joining.{fill}
-use Rattle.branches.specs.Factors.{onwardAt}
-use Rattle.branches.proofs.Joining.{written-is, written-length, left-end}
+use Rattle.branches.specs.Factors.{labelAt, onwardAt}
+use Rattle.branches.proofs.Joining.{written-is, written-length, left-end, first-fits, written-reached, rest-fits, rest-done}
 use Rattle.branches.proofs.Covers.{covers-before}
-use Rattle.branches.proofs.Own.{row-open, row-in, row-below, row-one, Off, off-fits, off-next, off-end, onward-one, more-start, child-fits, label-fits, onward-reached, onward-fits, chain-done, chain-fits, five-fits, branch-done, branch-fits, joint-fits, off-done}
+use Rattle.branches.proofs.Chains.{row-open, row-in, row-below, row-one, Off, off-fits, off-next, off-end, onward-one, more-start, child-fits, below-fits, chain-done, chain-fits, five-fits, branch-done, branch-fits, joint-fits, off-done}
 use Prim.Native.Nat.{ℕ, _<_}
 use borrow.Fn.Kinds.{In}
 use borrow.Fn.PlainCycle.{Measures, is, falls, and}
@@ -73,7 +73,7 @@ chain-μ-loop code kids span u room₀ from at below end stop c₀ place₀ room
 
 -- src/lib.rt:78:9
 chain-put-sign-requires : (t : ℕ) → chain-lts.Need-put-sign-requires (chain-claims t) (chain-at t) chain.Post chain-Inv-loop chain-μ-loop
-chain-put-sign-requires t c κs = child-fits (c .before .before .before .before .before .args .code .now) (c .before .before .before .before .before .args .span .now) (c .before .before .before .before .before .args .u) (c .before .before .before .before .before .args .room .now) (c .before .before .before .before .before .args .from) (c .before .before .before .before .before .args .at) (c .before .before .before .before .before .pre .1 .1) (c .before .before .before .before .before .pre .1 .2)
+chain-put-sign-requires t c κs = child-fits (c .before .before .before .before .before .args .code .now) (c .before .before .before .before .before .args .span .now) (c .before .before .before .before .before .args .u) (c .before .before .before .before .before .args .room .now) (c .before .before .before .before .before .pre .1 .1) (c .before .before .before .before .before .pre .1 .2)
 
 -- src/lib.rt:79:9
 chain-put-label-requires : (t : ℕ) → chain-lts.Need-put-label-requires (chain-claims t) (chain-at t) chain.Post chain-Inv-loop chain-μ-loop
@@ -81,7 +81,7 @@ chain-put-label-requires t c κs =
     let R = c .before .before .before .before .before .before .before .before .before .pre .1 .0 in (
       omega (arith, R .within, R .rows .codes),
       R .rows .labels (c .before .before .before .before .before .before .before .before .before .args .u) (R .within),
-      label-fits (c .before .before .before .before .before .before .before .before .before .args .code .now) (c .before .before .before .before .before .before .before .before .before .args .span .now) (c .before .before .before .before .before .before .before .before .before .args .u) (c .before .before .before .before .before .before .before .before .before .args .room .now) (c .before .before .before .before .before .before .before .before .before .args .from) (c .before .before .before .before .before .before .before .before .before .args .at) (c .before .before .before .before .before .before .before .before .before .pre .1 .1) (c .before .before .before .put-sign .ensures) (c .before .before .before .before .before .before .before .before .before .pre .1 .2),
+      first-fits (labelAt (c .before .before .before .before .before .before .before .before .before .args .code .now) (c .before .before .before .before .before .before .before .before .before .args .u)) _ refl (c .before .before .before .put-sign .last .0) (written-reached (c .before .before .before .before .before .before .before .before .before .pre .1 .1) (c .before .before .before .put-sign .ensures)) (below-fits (c .before .before .before .before .before .before .before .before .before .args .code .now) (c .before .before .before .before .before .before .before .before .before .args .span .now) (c .before .before .before .before .before .before .before .before .before .args .u) (c .before .before .before .before .before .before .before .before .before .args .room .now) (c .before .before .before .before .before .before .before .before .before .pre .1 .1) (c .before .before .before .put-sign .ensures) (c .before .before .before .before .before .before .before .before .before .pre .1 .2)),
     )
 
 -- src/lib.rt:80:8
@@ -105,8 +105,8 @@ chain-chain-requires t c κs =
       omega (arith, c .before .before .before .before .before .before .before .before .before .before .before .before .before .before .before .pre .0, b .1),
       (
         row-in R (c .before .before .before .before .before .before .before .before .before .before .before .before .before .before .before .args .u + 1) m,
-        onward-reached (c .before .before .before .before .before .before .before .before .before .before .before .before .before .before .before .args .code .now) (c .before .before .before .before .before .before .before .before .before .before .before .before .before .before .before .args .span .now) (c .before .before .before .before .before .before .before .before .before .before .before .before .before .before .before .args .u) (c .before .before .before .before .before .before .before .before .before .before .before .before .before .before .before .args .room .now) (c .before .before .before .before .before .before .before .before .before .before .before .before .before .before .before .args .from) (c .before .before .before .before .before .before .before .before .before .before .before .before .before .before .before .args .at) (c .before .before .before .before .before .before .before .before .before .before .before .before .before .before .before .pre .1 .1) (c .before .before .before .before .before .before .before .before .before .put-sign .ensures) (c .before .before .before .before .before .put-label .ensures),
-        rw (← onward-one R (c .before .if1 .taken)) (onward-fits (c .before .before .before .before .before .before .before .before .before .before .before .before .before .before .before .args .code .now) (c .before .before .before .before .before .before .before .before .before .before .before .before .before .before .before .args .span .now) (c .before .before .before .before .before .before .before .before .before .before .before .before .before .before .before .args .u) (c .before .before .before .before .before .before .before .before .before .before .before .before .before .before .before .args .room .now) (c .before .before .before .before .before .before .before .before .before .before .before .before .before .before .before .args .from) (c .before .before .before .before .before .before .before .before .before .before .before .before .before .before .before .args .at) (c .before .before .before .before .before .before .before .before .before .before .before .before .before .before .before .pre .1 .1) (c .before .before .before .before .before .before .before .before .before .put-sign .ensures) (c .before .before .before .before .before .put-label .ensures) (c .before .before .before .before .before .before .before .before .before .before .before .before .before .before .before .pre .1 .2)),
+        written-reached (written-reached (c .before .before .before .before .before .before .before .before .before .before .before .before .before .before .before .pre .1 .1) (c .before .before .before .before .before .before .before .before .before .put-sign .ensures)) (c .before .before .before .before .before .put-label .ensures),
+        rw (← onward-one R (c .before .if1 .taken)) (rest-fits (labelAt (c .before .before .before .before .before .before .before .before .before .before .before .before .before .before .before .args .code .now) (c .before .before .before .before .before .before .before .before .before .before .before .before .before .before .before .args .u)) _ refl (c .before .before .before .before .before .before .before .before .before .put-sign .last .0) (written-reached (c .before .before .before .before .before .before .before .before .before .before .before .before .before .before .before .pre .1 .1) (c .before .before .before .before .before .before .before .before .before .put-sign .ensures)) (c .before .before .before .before .before .put-label .ensures) (below-fits (c .before .before .before .before .before .before .before .before .before .before .before .before .before .before .before .args .code .now) (c .before .before .before .before .before .before .before .before .before .before .before .before .before .before .before .args .span .now) (c .before .before .before .before .before .before .before .before .before .before .before .before .before .before .before .args .u) (c .before .before .before .before .before .before .before .before .before .before .before .before .before .before .before .args .room .now) (c .before .before .before .before .before .before .before .before .before .before .before .before .before .before .before .pre .1 .1) (c .before .before .before .before .before .before .before .before .before .put-sign .ensures) (c .before .before .before .before .before .before .before .before .before .before .before .before .before .before .before .pre .1 .2))),
       ),
     )
 
@@ -116,7 +116,7 @@ chain-same-length t c = search needs
 
 -- src/lib.rt:81:9
 chain-returns : (t : ℕ) → chain-lts.Need-returns (chain-claims t) (chain-at t) chain.Post chain-Inv-loop chain-μ-loop
-chain-returns t c = chain-done (c .before .before .before .before .before .before .before .before .before .before .before .before .before .before .before .before .before .before .args .code .now) (c .before .before .before .before .before .before .before .before .before .before .before .before .before .before .before .before .before .before .args .span .now) (c .before .before .before .before .before .before .before .before .before .before .before .before .before .before .before .before .before .before .args .u) (c .before .before .before .before .before .before .before .before .before .before .before .before .before .before .before .before .before .before .args .room .now) (c .before .before .before .before .before .before .before .before .before .before .before .before .before .before .before .before .before .before .args .from) (c .before .before .before .before .before .before .before .before .before .before .before .before .before .before .before .before .before .before .args .at) (c .before .before .before .before .before .before .before .before .before .before .before .before .before .before .before .before .before .before .pre .1 .1) (c .before .before .before .before .before .before .before .before .before .before .before .before .put-sign .ensures) (c .before .before .before .before .before .before .before .before .put-label .ensures) (written-is (ap (fill _ _) (sym (onward-one (c .before .before .before .before .before .before .before .before .before .before .before .before .before .before .before .before .before .before .pre .1 .0) (c .before .before .before .before .if1 .taken)))) (c .before .before .chain .ensures))
+chain-returns t c = chain-done (c .before .before .before .before .before .before .before .before .before .before .before .before .before .before .before .before .before .before .args .code .now) (c .before .before .before .before .before .before .before .before .before .before .before .before .before .before .before .before .before .before .args .span .now) (c .before .before .before .before .before .before .before .before .before .before .before .before .before .before .before .before .before .before .args .u) (c .before .before .before .before .before .before .before .before .before .before .before .before .before .before .before .before .before .before .args .room .now) (c .before .before .before .before .before .before .before .before .before .before .before .before .before .before .before .before .before .before .pre .1 .1) (c .before .before .before .before .before .before .before .before .before .before .before .before .put-sign .ensures) (rest-done (labelAt (c .before .before .before .before .before .before .before .before .before .before .before .before .before .before .before .before .before .before .args .code .now) (c .before .before .before .before .before .before .before .before .before .before .before .before .before .before .before .before .before .before .args .u)) _ refl (c .before .before .before .before .before .before .before .before .before .before .before .before .put-sign .last .0) (written-reached (c .before .before .before .before .before .before .before .before .before .before .before .before .before .before .before .before .before .before .pre .1 .1) (c .before .before .before .before .before .before .before .before .before .before .before .before .put-sign .ensures)) (c .before .before .before .before .before .before .before .before .put-label .ensures) (written-is (ap (fill _ _) (sym (onward-one (c .before .before .before .before .before .before .before .before .before .before .before .before .before .before .before .before .before .before .pre .1 .0) (c .before .before .before .before .if1 .taken)))) (c .before .before .chain .ensures)))
 
 -- src/lib.rt:83:20
 chain-span-at-requires : (t : ℕ) → chain-lts.Need-span-at-requires (chain-claims t) (chain-at t) chain.Post chain-Inv-loop chain-μ-loop
@@ -136,8 +136,8 @@ chain-loop-holds t c =
     let R = c .before .before .before .before .before .before .before .before .before .before .before .before .before .before .before .pre .1 .0 in (
       omega arith,
       rw (c .span-at .ensures .0) refl,
-      rw (c .span-at .ensures .0) (more-start R _ _ _ (onward-reached (c .before .before .before .before .before .before .before .before .before .before .before .before .before .before .before .args .code .now) (c .before .before .before .before .before .before .before .before .before .before .before .before .before .before .before .args .span .now) (c .before .before .before .before .before .before .before .before .before .before .before .before .before .before .before .args .u) (c .before .before .before .before .before .before .before .before .before .before .before .before .before .before .before .args .room .now) (c .before .before .before .before .before .before .before .before .before .before .before .before .before .before .before .args .from) (c .before .before .before .before .before .before .before .before .before .before .before .before .before .before .before .args .at) (c .before .before .before .before .before .before .before .before .before .before .before .before .before .before .before .pre .1 .1) (c .before .before .before .before .before .before .before .before .before .put-sign .ensures) (c .before .before .before .before .before .put-label .ensures)) (c .before .if1 .left)),
-      onward-fits (c .before .before .before .before .before .before .before .before .before .before .before .before .before .before .before .args .code .now) (c .before .before .before .before .before .before .before .before .before .before .before .before .before .before .before .args .span .now) (c .before .before .before .before .before .before .before .before .before .before .before .before .before .before .before .args .u) (c .before .before .before .before .before .before .before .before .before .before .before .before .before .before .before .args .room .now) (c .before .before .before .before .before .before .before .before .before .before .before .before .before .before .before .args .from) (c .before .before .before .before .before .before .before .before .before .before .before .before .before .before .before .args .at) (c .before .before .before .before .before .before .before .before .before .before .before .before .before .before .before .pre .1 .1) (c .before .before .before .before .before .before .before .before .before .put-sign .ensures) (c .before .before .before .before .before .put-label .ensures) (c .before .before .before .before .before .before .before .before .before .before .before .before .before .before .before .pre .1 .2),
+      rw (c .span-at .ensures .0) (more-start R _ _ _ (written-reached (written-reached (c .before .before .before .before .before .before .before .before .before .before .before .before .before .before .before .pre .1 .1) (c .before .before .before .before .before .before .before .before .before .put-sign .ensures)) (c .before .before .before .before .before .put-label .ensures)) (c .before .if1 .left)),
+      rest-fits (labelAt (c .before .before .before .before .before .before .before .before .before .before .before .before .before .before .before .args .code .now) (c .before .before .before .before .before .before .before .before .before .before .before .before .before .before .before .args .u)) _ refl (c .before .before .before .before .before .before .before .before .before .put-sign .last .0) (written-reached (c .before .before .before .before .before .before .before .before .before .before .before .before .before .before .before .pre .1 .1) (c .before .before .before .before .before .before .before .before .before .put-sign .ensures)) (c .before .before .before .before .before .put-label .ensures) (below-fits (c .before .before .before .before .before .before .before .before .before .before .before .before .before .before .before .args .code .now) (c .before .before .before .before .before .before .before .before .before .before .before .before .before .before .before .args .span .now) (c .before .before .before .before .before .before .before .before .before .before .before .before .before .before .before .args .u) (c .before .before .before .before .before .before .before .before .before .before .before .before .before .before .before .args .room .now) (c .before .before .before .before .before .before .before .before .before .before .before .before .before .before .before .pre .1 .1) (c .before .before .before .before .before .before .before .before .before .put-sign .ensures) (c .before .before .before .before .before .before .before .before .before .before .before .before .before .before .before .pre .1 .2)),
     )
 
 -- src/lib.rt:87:13
@@ -192,11 +192,11 @@ chain-loop-again t c =
 
 -- src/lib.rt:74:1
 chain-same-length-2 : (t : ℕ) → chain-lts.Need-same-length-2 (chain-claims t) (chain-at t) chain.Post chain-Inv-loop chain-μ-loop
-chain-same-length-2 t c = written-length (chain-done (c .before .before .before .before .before .before .before .before .before .before .before .before .before .before .before .before .before .args .code .now) (c .before .before .before .before .before .before .before .before .before .before .before .before .before .before .before .before .before .args .span .now) (c .before .before .before .before .before .before .before .before .before .before .before .before .before .before .before .before .before .args .u) (c .before .before .before .before .before .before .before .before .before .before .before .before .before .before .before .before .before .args .room .now) (c .before .before .before .before .before .before .before .before .before .before .before .before .before .before .before .before .before .args .from) (c .before .before .before .before .before .before .before .before .before .before .before .before .before .before .before .before .before .args .at) (c .before .before .before .before .before .before .before .before .before .before .before .before .before .before .before .before .before .pre .1 .1) (c .before .before .before .before .before .before .before .before .before .before .before .put-sign .ensures) (c .before .before .before .before .before .before .before .put-label .ensures) (left-end (off-end (c .before .before .before .before .before .before .before .before .before .before .before .before .before .before .before .before .before .args .code .now) (c .before .before .before .before .before .before .before .before .before .before .before .before .before .before .before .before .before .args .span .now) (c .before .before .before .before .before .before .before .before .before .before .before .before .before .before .before .before .before .args .u) (c .before .before .before .before .before .before .before .before .before .before .before .before .before .before .before .before .before .args .u) (c .before .loop .inv .2) (c .loop-test .left))))
+chain-same-length-2 t c = written-length (chain-done (c .before .before .before .before .before .before .before .before .before .before .before .before .before .before .before .before .before .args .code .now) (c .before .before .before .before .before .before .before .before .before .before .before .before .before .before .before .before .before .args .span .now) (c .before .before .before .before .before .before .before .before .before .before .before .before .before .before .before .before .before .args .u) (c .before .before .before .before .before .before .before .before .before .before .before .before .before .before .before .before .before .args .room .now) (c .before .before .before .before .before .before .before .before .before .before .before .before .before .before .before .before .before .pre .1 .1) (c .before .before .before .before .before .before .before .before .before .before .before .put-sign .ensures) (rest-done (labelAt (c .before .before .before .before .before .before .before .before .before .before .before .before .before .before .before .before .before .args .code .now) (c .before .before .before .before .before .before .before .before .before .before .before .before .before .before .before .before .before .args .u)) _ refl (c .before .before .before .before .before .before .before .before .before .before .before .put-sign .last .0) (written-reached (c .before .before .before .before .before .before .before .before .before .before .before .before .before .before .before .before .before .pre .1 .1) (c .before .before .before .before .before .before .before .before .before .before .before .put-sign .ensures)) (c .before .before .before .before .before .before .before .put-label .ensures) (left-end (off-end (c .before .before .before .before .before .before .before .before .before .before .before .before .before .before .before .before .before .args .code .now) (c .before .before .before .before .before .before .before .before .before .before .before .before .before .before .before .before .before .args .span .now) (c .before .before .before .before .before .before .before .before .before .before .before .before .before .before .before .before .before .args .u) (c .before .before .before .before .before .before .before .before .before .before .before .before .before .before .before .before .before .args .u) (c .before .loop .inv .2) (c .loop-test .left)))))
 
 -- src/lib.rt:74:1
 chain-returns-2 : (t : ℕ) → chain-lts.Need-returns-2 (chain-claims t) (chain-at t) chain.Post chain-Inv-loop chain-μ-loop
-chain-returns-2 t c = chain-done (c .before .before .before .before .before .before .before .before .before .before .before .before .before .before .before .before .before .args .code .now) (c .before .before .before .before .before .before .before .before .before .before .before .before .before .before .before .before .before .args .span .now) (c .before .before .before .before .before .before .before .before .before .before .before .before .before .before .before .before .before .args .u) (c .before .before .before .before .before .before .before .before .before .before .before .before .before .before .before .before .before .args .room .now) (c .before .before .before .before .before .before .before .before .before .before .before .before .before .before .before .before .before .args .from) (c .before .before .before .before .before .before .before .before .before .before .before .before .before .before .before .before .before .args .at) (c .before .before .before .before .before .before .before .before .before .before .before .before .before .before .before .before .before .pre .1 .1) (c .before .before .before .before .before .before .before .before .before .before .before .put-sign .ensures) (c .before .before .before .before .before .before .before .put-label .ensures) (left-end (off-end (c .before .before .before .before .before .before .before .before .before .before .before .before .before .before .before .before .before .args .code .now) (c .before .before .before .before .before .before .before .before .before .before .before .before .before .before .before .before .before .args .span .now) (c .before .before .before .before .before .before .before .before .before .before .before .before .before .before .before .before .before .args .u) (c .before .before .before .before .before .before .before .before .before .before .before .before .before .before .before .before .before .args .u) (c .before .loop .inv .2) (c .loop-test .left)))
+chain-returns-2 t c = chain-done (c .before .before .before .before .before .before .before .before .before .before .before .before .before .before .before .before .before .args .code .now) (c .before .before .before .before .before .before .before .before .before .before .before .before .before .before .before .before .before .args .span .now) (c .before .before .before .before .before .before .before .before .before .before .before .before .before .before .before .before .before .args .u) (c .before .before .before .before .before .before .before .before .before .before .before .before .before .before .before .before .before .args .room .now) (c .before .before .before .before .before .before .before .before .before .before .before .before .before .before .before .before .before .pre .1 .1) (c .before .before .before .before .before .before .before .before .before .before .before .put-sign .ensures) (rest-done (labelAt (c .before .before .before .before .before .before .before .before .before .before .before .before .before .before .before .before .before .args .code .now) (c .before .before .before .before .before .before .before .before .before .before .before .before .before .before .before .before .before .args .u)) _ refl (c .before .before .before .before .before .before .before .before .before .before .before .put-sign .last .0) (written-reached (c .before .before .before .before .before .before .before .before .before .before .before .before .before .before .before .before .before .pre .1 .1) (c .before .before .before .before .before .before .before .before .before .before .before .put-sign .ensures)) (c .before .before .before .before .before .before .before .put-label .ensures) (left-end (off-end (c .before .before .before .before .before .before .before .before .before .before .before .before .before .before .before .before .before .args .code .now) (c .before .before .before .before .before .before .before .before .before .before .before .before .before .before .before .before .before .args .span .now) (c .before .before .before .before .before .before .before .before .before .before .before .before .before .before .before .before .before .args .u) (c .before .before .before .before .before .before .before .before .before .before .before .before .before .before .before .before .before .args .u) (c .before .loop .inv .2) (c .loop-test .left))))
 
 pub +branch+chain-spec : {M : Type 1} → statement M
 +branch+chain-spec = close μ-branch μ-chain (λ t. branch-lts.spec (branch-claims t) (branch-at t) branch.Post

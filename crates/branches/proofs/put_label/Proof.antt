@@ -2,7 +2,7 @@ use mathlib.Core.Path.{sym, ap, refl}
 use native.Mathlib.Omega.{arith}
 use lib.ListN.{length}
 use Rattle.branches.proofs.Joining.{written-nil, written-is}
-use Rattle.branches.proofs.Own.{label-none, label-some}
+use Rattle.branches.proofs.Chains.{label-none, label-some}
 use borrow.Author.Needs.{needs}
 use Rattle.branches.proofs.put_label.Statement.{statement}
 use Rattle.branches.proofs.put_label.Tie as tie

@@ -1,7 +1,7 @@
 -- Laws of a row's factors: what the chain of a branch goes on with, and a node's own factors child by child.
 use mathlib.Core.Path.{_≡_, refl, sym, ap, _∙_}
 use mathlib.Core.Bool.{Bool, true, false, _||_, cond}
-use mathlib.Core.List.{List, [], _∷_, _++_, map, append-nil}
+use mathlib.Core.List.{List, [], _∷_, _++_, map}
 use Prim.Native.Nat.{ℕ, zero, suc, _+_, _≤_, _<_}
 use native.Mathlib.Omega.{arith}
 use lib.ListN.{length, getD, length-append}
@@ -14,8 +14,8 @@ use Rattle.meaning.specs.Normal.{all, labelled, branch, onward, chains, eitherI
 use Rattle.rows.specs.Rows.{labOf, below, mapT, Holds, width}
 use Rattle.rows.proofs.Rows.{size-holds, holds-first, holds-opens, row-opens, row-kids, Opens}
 use Rattle.branches.specs.Joining.{joint, fill, factor, Written}
-use Rattle.branches.specs.Factors.{Row, tagged, under, labelAt, onwardAt, chainAt, covers, offAt, ownAt}
-use Rattle.branches.proofs.Joining.{fill-nil, fill-one, fill-child, fill-first, factor-first, factor-rest, factor-then, written-is, written-then, written-length, Left, left-start, left-is, left-fits, left-step, left-end}
+use Rattle.branches.specs.Factors.{Row, tagged, under, labelAt, onwardAt, chainAt, covers, offAt, branchesAt, ownAt}
+use Rattle.branches.proofs.Joining.{fill-nil, fill-one, fill-child, fill-first, factor-first, factor-rest, factor-then, written-is, written-then, written-length, Left, left-start, left-is, left-fits, left-step, first-fits, rest-fits, rest-done}
 use Rattle.branches.proofs.Covers.{either-covers, covers-before}
 
 pub labelled-append : (l : Lab) (xs : List Expr) → labelled l xs ≡ labelled l [] ++ xs
@@ -51,10 +51,6 @@ pub row-in : {code kids span : List ℕ} {u : ℕ} → Row code kids span u → 
 row-in R c l = let o = row-open R .inside in record { mark = R .mark; up = R .up; n = R .n; rows = R .rows; within = omega arith }
 
 module _ (code span : List ℕ) (u : ℕ) where
-  pub own-parts : (x y : ℕ) → ownAt code span x y u ≡ labelAt code u ++ off eitherIn (under code span x y u) []
-  unfolding ownAt labelAt
-  own-parts x y = labelled-append (labOf (getD code u 0)) (off eitherIn (under code span x y u) [])
-
   -- "child, the node's label, and then"
   chain-parts : chainAt code span u ≡ (child ∷ []) ++ (labelAt code u ++ onwardAt code span u)
   unfolding chainAt labelAt
@@ -85,8 +81,8 @@ module _ (code span : List ℕ) (x y : ℕ) where
     pub left : Left d₀ from at₀ xs d at (off eitherIn (mapT (tagged code x y) forest) [])
 
   pub off-start : {kids : List ℕ} {u : ℕ} {d₀ : List ℕ} {from at₀ : ℕ} {xs : List Expr} {d : List ℕ} {at : ℕ} → Row code kids span u
-      → Left d₀ from at₀ xs d at (off eitherIn (under code span x y u) []) → Off (u + 1) (u + getD span u 0) d₀ from at₀ xs d at
-  unfolding under
+      → Left d₀ from at₀ xs d at (branchesAt code span x y u) → Off (u + 1) (u + getD span u 0) d₀ from at₀ xs d at
+  unfolding under branchesAt
   off-start {kids} {u} R w = let z : u + 1 ≡ suc u = omega arith in rw z (record { forest = below span u; held = row-open R .held; left = w })
 
   module _ {c e : ℕ} {d₀ : List ℕ} {from at₀ : ℕ} {xs : List Expr} {d : List ℕ} {at : ℕ} (O : Off c e d₀ from at₀ xs d at) where
@@ -147,8 +143,8 @@ module _ {code kids span : List ℕ} {u : ℕ} (R : Row code kids span u) where
   onward-one e = let z : u + 1 ≡ suc u = omega arith in rw z (one-onward code span u _ (below span u) (row-open R .held) (sym (row-width R) ∙ e))
 
   -- "if it has more, one first projection each, in image order"
-  onward-more : (getD kids u 0 ≡ 1 → ⊥) → onwardAt code span u ≡ off eitherIn (under code span u u u) []
-  unfolding onwardAt under
+  onward-more : (getD kids u 0 ≡ 1 → ⊥) → onwardAt code span u ≡ branchesAt code span u u u
+  unfolding onwardAt branchesAt under
   onward-more e = more-onward code span u _ (below span u) (row-open R .held) (λ w. e (row-width R ∙ w))
 
   pub more-start : (d : List ℕ) (from at : ℕ) → from ≤ at → (getD kids u 0 ≡ 1 → ⊥)
@@ -167,32 +163,19 @@ module _ {code kids span : List ℕ} {u : ℕ} (R : Row code kids span u) where
       go (tree i k r) h w = let s = size-holds span (suc u) (u + getD span u 0) (tree i k r) h in omega arith
 
 -- ------------------------------------------------------------------ writing a chain and a branch
-module _ (code span : List ℕ) (u : ℕ) (d : List ℕ) (from at : ℕ) (le : from ≤ at) where
-  chain-start : Left d from at (chainAt code span u) d at ((child ∷ []) ++ (labelAt code u ++ onwardAt code span u))
-  chain-start = left-start d from at _ _ (chain-parts code span u) le
-
+module _ (code span : List ℕ) (u : ℕ) (d : List ℕ) {from at : ℕ} (le : from ≤ at) where
   pub child-fits : at + length (fill from at (chainAt code span u)) ≤ length d → at + length (factor from at (num 2)) ≤ length d
-  child-fits l = rw (← fill-child from at) (left-fits (child ∷ []) _ chain-start l)
+  child-fits l = rw (← fill-child from at) (first-fits (child ∷ []) _ (chain-parts code span u) d le l)
 
   module _ {d₁ : List ℕ} {a : ℕ} (v : Written d at (factor from at (num 2)) d₁ a) where
-    label-left : Left d from at (chainAt code span u) d₁ a (labelAt code u ++ onwardAt code span u)
-    label-left = left-step (child ∷ []) _ chain-start (written-is (sym (fill-child from at)) v)
+    v′ : Written d at (fill from at (child ∷ [])) d₁ a
+    v′ = written-is (sym (fill-child from at)) v
 
-    pub label-fits : at + length (fill from at (chainAt code span u)) ≤ length d → a + length (fill from a (labelAt code u)) ≤ length d₁
-    label-fits l = left-fits (labelAt code u) _ label-left l
+    pub below-fits : at + length (fill from at (chainAt code span u)) ≤ length d → a + length (fill from a (labelAt code u ++ onwardAt code span u)) ≤ length d₁
+    below-fits l = rest-fits (child ∷ []) _ (chain-parts code span u) d le v′ l
 
-    module _ {d₂ : List ℕ} {b : ℕ} (w : Written d₁ a (fill from a (labelAt code u)) d₂ b) where
-      onward-left : Left d from at (chainAt code span u) d₂ b (onwardAt code span u ++ [])
-      onward-left = left-is (sym (append-nil (onwardAt code span u))) (left-step (labelAt code u) _ label-left w)
-
-      pub onward-reached : from ≤ b
-      onward-reached = onward-left .reached
-
-      pub onward-fits : at + length (fill from at (chainAt code span u)) ≤ length d → b + length (fill from b (onwardAt code span u)) ≤ length d₂
-      onward-fits l = left-fits (onwardAt code span u) [] onward-left l
-
-      pub chain-done : {d₃ : List ℕ} {r : ℕ} → Written d₂ b (fill from b (onwardAt code span u)) d₃ r → Written d at (fill from at (chainAt code span u)) d₃ r
-      chain-done z = left-end (left-step (onwardAt code span u) [] onward-left z)
+    pub chain-done : {d₂ : List ℕ} {r : ℕ} → Written d₁ a (fill from a (labelAt code u ++ onwardAt code span u)) d₂ r → Written d at (fill from at (chainAt code span u)) d₂ r
+    chain-done w = rest-done (child ∷ []) _ (chain-parts code span u) d le v′ w
 
 -- "A branch is written as a chain", under one first projection
 pub branch-parts : (code span : List ℕ) (u at : ℕ) → wordOf (branch (chainAt code span u)) ≡ fill at at (chainAt code span u) ++ (5 ∷ [])
@@ -232,6 +215,20 @@ module _ (code span : List ℕ) (x y c from at : ℕ) (ex : covers span c x ≡ 
     joint-fits {d₁} {a} v =
         let s = written-length v in factor-rest from at (wordOf (branch (chainAt code span c))) (length d₁) a (v .place) (omega (arith, l′))
 
-pub off-none : (code span : List ℕ) (x y c from at : ℕ) → (covers span c x || covers span c y) ≡ true → fill from at (offAt code span x y c) ≡ []
-unfolding offAt
-off-none code span x y c from at e = rw e (fill-nil from at)
+module _ (code span : List ℕ) (x y c from at : ℕ) where
+  pub off-first-way : covers span c x ≡ true → fill from at (offAt code span x y c) ≡ []
+  unfolding offAt
+  off-first-way e = rw e (fill-nil from at)
+
+  pub off-second-way : covers span c y ≡ true → fill from at (offAt code span x y c) ≡ []
+  unfolding offAt
+  off-second-way e = rw e (go (covers span c x))
+    where
+      go : (b : Bool) → fill from at (cond (b || true) [] (branch (chainAt code span c) ∷ [])) ≡ []
+      go true = fill-nil from at
+      go false = fill-nil from at
+
+-- ------------------------------------------------------------------ a node's own factors
+pub own-parts : (code span : List ℕ) (x y u : ℕ) → ownAt code span x y u ≡ labelAt code u ++ branchesAt code span x y u
+unfolding ownAt
+own-parts code span x y u = refl
