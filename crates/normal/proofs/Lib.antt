@@ -1,1 +1,3 @@
 mod Walk
+mod Around
+mod Marks

@@ -98,8 +98,12 @@ module _ (q : Tag → Bool) (W : Forest Tag → List Expr) (next : Tag → Fores
       let z = holds-first span u e i k r h .2 in
       skips false u e i k r h (covers-before span u x l) ∙ walk-none (u + getD span u 0) e r z (omega arith)
 
+pub or-same : (b : Bool) → b ≡ (b || b)
+or-same true = refl
+or-same false = refl
+
 module _ {code mark kids span up : List ℕ} {n : ℕ} (R : Rows code mark kids span up n) where
-  row-open : (u : ℕ) → u < n → Opens span u n
+  pub row-open : (u : ℕ) → u < n → Opens span u n
   row-open u l = row-opens span n (R .laid) u l
 
   -- every row below the top is a child of its parent
@@ -133,21 +137,17 @@ module _ {code mark kids span up : List ℕ} {n : ℕ} (R : Rows code mark kids 
         let w = size-holds span u e (tree i k r) h in
         rw (← h .0, ← z .0, same u (omega arith), either-covers code span x y u e (z .1), chains-same (tagged code s d) (tagged code x y) (λ j. refl) (below span u), off-same (u + getD span u 0) e r (z .2) l)
 
-    own-is : (c : ℕ) → c < n → (l : List Expr) → labelled (labOf (getD code c 0)) (off p (under code span s d c) l) ≡ ownAt code span x y c ++ l
+    pub own-is : (c : ℕ) → c < n → (l : List Expr) → labelled (labOf (getD code c 0)) (off p (under code span s d c) l) ≡ ownAt code span x y c ++ l
     unfolding under ownAt labelAt branchesAt
     own-is c m l =
         let o = row-open c m in
         rw (off-append p (mapT (tagged code s d) (below span c)) l, off-same (suc c) (c + getD span c 0) (below span c) (o .held) (o .inside), labelled-append (labOf (getD code c 0)) (off eitherIn (mapT (tagged code x y) (below span c)) [] ++ l))
         (sym (append-assoc (labelled (labOf (getD code c 0)) []) (off eitherIn (mapT (tagged code x y) (below span c)) []) l))
 
-  or-same : (b : Bool) → b ≡ (b || b)
-  or-same true = refl
-  or-same false = refl
-
-  src-same : (s d c : ℕ) → c < n → srcIn (tagged code s d c) (under code span s d c) ≡ (covers span c s || covers span c s)
+  pub src-same : (s d c : ℕ) → c < n → srcIn (tagged code s d c) (under code span s d c) ≡ (covers span c s || covers span c s)
   src-same s d c l = src-covers code span s d c n (row-open c l) ∙ or-same (covers span c s)
 
-  dst-same : (s d c : ℕ) → c < n → dstIn (tagged code s d c) (under code span s d c) ≡ (covers span c d || covers span c d)
+  pub dst-same : (s d c : ℕ) → c < n → dstIn (tagged code s d c) (under code span s d c) ≡ (covers span c d || covers span c d)
   dst-same s d c l = dst-covers code span s d c n (row-open c l) ∙ or-same (covers span c d)
 
   -- ------------------------------------------------------------------ the three ways

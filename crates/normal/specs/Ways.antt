@@ -1,7 +1,7 @@
 -- The ways of a normal form over rows: which row is t, and the factors of each way.
-use mathlib.Core.Bool.{cond}
+use mathlib.Core.Bool.{Bool, cond}
 use mathlib.Core.List.{List, [], _∷_, _++_}
-use Prim.Native.Nat.{ℕ, _+_, _≤_, _<_}
+use Prim.Native.Nat.{ℕ, _+_, _/_, _%_, _≤_, _<_}
 use lib.ListN.{getD}
 use lib.Dec.{eqb}
 use Rattle.meaning.specs.Expression.{Expr, child}
@@ -28,6 +28,10 @@ pub record Lowest (span : List ℕ) (s d t : ℕ) : Type 0 where
   pub to-s : Covers span t s
   pub to-d : Covers span t d
   pub least : (v : ℕ) → Covers span v s → Covers span v d → v ≤ t
+
+-- the mark of row u has s (bit 1) or d (bit 2): "mark (0 none, 1 s, 2 d, 3 both)"
+unfoldable pub bears : List ℕ → ℕ → ℕ → Bool
+bears mark bit u = eqb (getD mark u 0 / bit % 2) 1
 
 -- "for each node from s up to just below t, its own factors and then parent"
 unfoldable pub upsAt : List ℕ → List ℕ → ℕ → ℕ → List Expr
