@@ -20,7 +20,7 @@ use Rattle.normal.specs.Ways.{Covers, Lowest, upsAt, downsAt, wayTo, way
 use Rattle.normal.proofs.Walk.{row-open, own-is, or-same, src-same, dst-same, walk-among}
 
 -- ------------------------------------------------------------------ who covers whom
-covers-true : (span : List ℕ) (c x : ℕ) → covers span c x ≡ true → Covers span c x
+pub covers-true : (span : List ℕ) (c x : ℕ) → covers span c x ≡ true → Covers span c x
 unfolding covers
 covers-true span c x = go (leb c x) refl (ltb x (c + getD span c 0)) refl
   where
@@ -29,7 +29,7 @@ covers-true span c x = go (leb c x) refl (ltb x (c + getD span c 0)) refl
     go true p false q e = let o : _≡_ {A = ℕ} 0 1 = cc in absurd (omega arith)
     go false p b q e = let o : _≡_ {A = ℕ} 0 1 = cc in absurd (omega arith)
 
-unlike : true ≡ false → ⊥
+pub unlike : true ≡ false → ⊥
 unlike e = let o : _≡_ {A = ℕ} 0 1 = cc in omega arith
 
 module _ {code mark kids span up : List ℕ} {n : ℕ} (R : Rows code mark kids span up n) where

@@ -1,3 +1,5 @@
 mod Walk
 mod Around
 mod Marks
+mod Steps
+mod Writing

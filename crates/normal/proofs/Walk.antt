@@ -17,14 +17,9 @@ use Rattle.rows.proofs.Rows.{size-holds, holds-first, holds-opens, Opens, row-o
 use Rattle.branches.specs.Factors.{tagged, under, labelAt, covers, branchesAt, ownAt}
 use Rattle.branches.proofs.Covers.{in-covers, src-covers, dst-covers, either-covers, covers-in, covers-before, covers-behind}
 use Rattle.branches.proofs.Chains.{labelled-append, chains-same}
-use Rattle.normal.specs.Ways.{Covers, upsAt, downsAt, wayTo, wayAt}
+use Rattle.normal.specs.Ways.{Covers, Among, upsAt, downsAt, wayTo, wayAt}
 
 -- ------------------------------------------------------------------ children
--- row c is the first row of one of the trees
-abbrev pub Among : ℕ → Forest ℕ → Type 0
-Among c bare = ⊥
-Among c (tree i k r) = (c ≡ i) ⊎ Among c r
-
 among-from : (span : List ℕ) (u e : ℕ) (F : Forest ℕ) → Holds span u e F → (c : ℕ) → Among c F → u ≤ c
 among-from span u e bare h c a = absurd a
 among-from span u e (tree i k r) h c (inl q) = omega (arith, h .0)
