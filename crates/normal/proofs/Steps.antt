@@ -66,7 +66,7 @@ part-bound P = let o = part-open P .inside in (omega (arith, P .spans), omega (a
 
 -- ------------------------------------------------------------------ the parent
 module _ {code mark kids span up : List ℕ} {n : ℕ} (R : Rows code mark kids span up n) where
-  covers-self : (u : ℕ) → u < n → Covers span u u
+  pub covers-self : (u : ℕ) → u < n → Covers span u u
   covers-self u l = record { from = omega arith; to = omega (arith, row-open R u l .some) }
 
   -- from row x, at or above row s, to its parent

@@ -20,7 +20,7 @@ use Rattle.branches.proofs.Chains.{labelled-append, chains-same}
 use Rattle.normal.specs.Ways.{Covers, Among, upsAt, downsAt, wayTo, wayAt}
 
 -- ------------------------------------------------------------------ children
-among-from : (span : List ℕ) (u e : ℕ) (F : Forest ℕ) → Holds span u e F → (c : ℕ) → Among c F → u ≤ c
+pub among-from : (span : List ℕ) (u e : ℕ) (F : Forest ℕ) → Holds span u e F → (c : ℕ) → Among c F → u ≤ c
 among-from span u e bare h c a = absurd a
 among-from span u e (tree i k r) h c (inl q) = omega (arith, h .0)
 among-from span u e (tree i k r) h c (inr a) = omega (arith, h .0, among-from span (suc i + size k) e r (h .3) c a)
