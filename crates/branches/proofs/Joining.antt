@@ -24,7 +24,7 @@ num-some n = go (decLt n 128)
     go (yes p) = omega arith
     go (no q) = omega arith
 
-word-some : (e : Expr) → 1 ≤ length (wordOf e)
+pub word-some : (e : Expr) → 1 ≤ length (wordOf e)
 word-some empty = omega arith
 word-some self = omega arith
 word-some child = omega arith

@@ -3,3 +3,4 @@ mod Around
 mod Marks
 mod Steps
 mod Writing
+mod Form

@@ -113,17 +113,20 @@ module _ {code kids span : List ℕ} {u : ℕ} (R : Row code kids span u) where
   row-reach w = omega (arith, w .to, row-open (R .rows) u (R .within) .inside)
 
   module _ {c x : ℕ} (a : Among c (below span u)) (v : Covers span c x) (w : Covers span u x) where
+    within : c < R .n
+    within = omega (arith, v .from, row-reach w)
+
     pub child-row : Row code kids span c
-    child-row = record { mark = R .mark; up = R .up; n = R .n; rows = R .rows; within = omega (arith, v .from, row-reach w) }
+    child-row = record { mark = R .mark; up = R .up; n = R .n; rows = R .rows; within = within }
 
     pub child-behind : u < c
     child-behind = among-from span (suc u) (u + getD span u 0) (below span u) (row-open (R .rows) u (R .within) .held) c a
 
     pub down-parts : downsAt code span x u ≡ (child ∷ []) ++ (ownAt code span x x c ++ downsAt code span x c)
-    down-parts = downs-step (R .rows) u c (R .within) (child-row .within) a x v
+    down-parts = downs-step (R .rows) u c (R .within) within a x v
 
     pub way-parts : (u ≡ x → ⊥) → wayAt code span x u ≡ ownAt code span x x u ++ ((child ∷ []) ++ wayAt code span x c)
-    way-parts ne = way-step (R .rows) u c (R .within) (child-row .within) a x v ne
+    way-parts ne = way-step (R .rows) u c (R .within) within a x v ne
 
   -- the way starts at the top, where everything lies below
   pub top-row : Row code kids span 0
@@ -133,9 +136,12 @@ module _ {code kids span : List ℕ} {u : ℕ} (R : Row code kids span u) where
   top-covers =
       record { from = omega arith; to = omega (arith, R .within, rows-top code (R .mark) kids span (R .up) (R .n) (R .rows) (omega (arith, R .within)) .span-all) }
 
--- the ways have an end
-pub downs-nil : {code kids span : List ℕ} {d : ℕ} → Row code kids span d → downsAt code span d d ≡ []
-downs-nil {d = d} R = downs-end (R .rows) d (R .within)
+  -- the ways have an end
+  pub downs-nil : {d : ℕ} → u ≡ d → downsAt code span d u ≡ []
+  downs-nil e = rw (← e) (downs-end (R .rows) u (R .within))
+
+  pub way-nil : {t : ℕ} → u ≡ t → wayAt code span t u ≡ []
+  way-nil e = rw (← e) (way-end (R .rows) u)
 
 -- ------------------------------------------------------------------ the way above
 above-cons : (from at : ℕ) (y : Expr) (ys : List Expr) → fill from at (aboveFactor (y ∷ ys) []) ≡ factor from at (fill at at (y ∷ ys) ++ (6 ∷ []))

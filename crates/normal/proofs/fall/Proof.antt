@@ -35,7 +35,7 @@ put-sign-requires : tie.Need-put-sign-requires Inv-loop μ-loop
 put-sign-requires c κs = 
     let (R, v, L, l) = c .before .before .before .loop .inv in
     let (a, w) = c .before .child-to .ensures in
-    rw (← fill-child 0 (c .before .before .before .loop .place)) (part-first (child ∷ []) _ _ (down-parts R a w v) L l)
+    rw (← fill-child 0 (c .before .before .before .loop .place)) (part-first (child ∷ []) (ownAt (c .before .before .before .before .before .before .before .before .args .code .now) (c .before .before .before .before .before .before .before .before .args .span .now) (c .before .before .before .before .before .before .before .before .args .d) (c .before .before .before .before .before .before .before .before .args .d) (c .before .child-to .result)) _ (down-parts R a w v) L l)
 -- src/lib.rt:121:9
 own-requires : tie.Need-own-requires Inv-loop μ-loop
 own-requires c κs = 
@@ -61,7 +61,7 @@ same-length c = c .before .loop .inv .2 .same
 returns : tie.Need-returns Inv-loop μ-loop
 returns c = 
     let (R, v, L, l) = c .before .loop .inv in
-    left-end (left-is (ap (λ x. downsAt _ _ _ x) (c .loop-test .left) ∙ downs-nil (rw (c .loop-test .left) at R)) L)
+    left-end (left-is (downs-nil R (c .loop-test .left)) L)
 pub fall-spec : {M : Type 1} → statement M
 fall-spec =
     tie.close

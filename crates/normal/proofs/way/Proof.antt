@@ -8,8 +8,7 @@ use Rattle.branches.specs.Joining.{fill}
 use Rattle.branches.specs.Factors.{Row, ownAt}
 use Rattle.branches.proofs.Joining.{fill-child, written-is, written-length, Left, left-start, left-is, left-end}
 use Rattle.normal.specs.Ways.{Covers, wayAt}
-use Rattle.normal.proofs.Walk.{way-end}
-use Rattle.normal.proofs.Writing.{part-first, part-second, part-done, row-part, child-row, child-behind, way-parts, top-row, top-covers}
+use Rattle.normal.proofs.Writing.{part-first, part-second, part-done, row-part, child-row, child-behind, way-parts, top-row, top-covers, way-nil}
 use Rattle.normal.proofs.way.Statement.{statement}
 use Rattle.normal.proofs.way.Tie as tie
 use Rattle.normal.proofs.way.Reads as reads
@@ -62,7 +61,7 @@ same-length c = c .before .loop .inv .2 .same
 returns : tie.Need-returns Inv-loop μ-loop
 returns c = 
     let (R, v, L, l) = c .before .loop .inv in
-    left-end (left-is (ap (λ x. wayAt _ _ _ x) (c .loop-test .left) ∙ way-end (R .rows) (c .before .before .before .before .before .before .args .t)) L)
+    left-end (left-is (way-nil R (c .loop-test .left)) L)
 pub way-spec : {M : Type 1} → statement M
 way-spec =
     tie.close
