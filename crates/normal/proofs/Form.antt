@@ -9,7 +9,7 @@ use Rattle.meaning.specs.Expression.{Expr}
 use Rattle.meaning.specs.Number.{largestLabel}
 use Rattle.meaning.specs.Tree.{Forest, bare, tree, Tag, size}
 use Rattle.meaning.specs.Normal.{all, factors, normal, wordOf}
-use Rattle.theory.proofs.Count.{count, src, dst}
+use Rattle.theory.proofs.Count.{src, dst}
 use Rattle.theory.proofs.Labels.{LabIn, LabsIn}
 use Rattle.theory.proofs.Limits.{InRange, form-short}
 use Rattle.rows.specs.Rows.{labOf, tagAt, brothers, shape, mapT, treeRows, Holds, Rows}
@@ -19,7 +19,7 @@ use Rattle.groups.proofs.Put.{put-nil}
 use Rattle.branches.specs.Joining.{fill, Written}
 use Rattle.branches.specs.Factors.{tagged}
 use Rattle.branches.proofs.Joining.{word-some, fill-nil, fill-first, written-is}
-use Rattle.normal.specs.Ways.{Lowest, Borne, bears, formAt}
+use Rattle.normal.specs.Ways.{QueryRows, Lowest, Borne, bears, formAt}
 use Rattle.normal.proofs.Marks.{bears-src, bears-dst, count-find, tagged-rows}
 use Rattle.normal.proofs.Around.{factors-rows}
 
@@ -45,7 +45,10 @@ pub written-none : {d bs e : List ℕ} {at r : ℕ} → Written d at bs e r → 
 written-none {d} {bs} {e} {at} {r} w q = w .bytes ∙ ap (put d at) (no-bytes bs (omega (arith, w .place))) ∙ put-nil d at
 
 -- ------------------------------------------------------------------ rows
-module _ {code mark kids span up : List ℕ} {n : ℕ} (R : Rows code mark kids span up n) where
+module _ {code mark kids span up : List ℕ} {n : ℕ} (Q : QueryRows code mark kids span up n) where
+  R : Rows code mark kids span up n
+  R = Q .rows
+
   abbrev Word : List ℕ
   Word = wordOf (normal (treeRows code mark span n))
 
@@ -55,15 +58,17 @@ module _ {code mark kids span up : List ℕ} {n : ℕ} (R : Rows code mark kids 
   form-empty e = rw e
 
   -- some row is s, some row is d
-  pub borne-src : count src (treeRows code mark span n) ≡ 1 → Borne mark 1 0 n
+  pub borne-src : 0 < n → Borne mark 1 0 n
   unfolding treeRows
-  borne-src e =
+  borne-src z =
+      let e = Q .one-src z in
       let (i, l, t) = count-find src (tagAt code mark) span 0 n (shape span n) (R .laid) (omega arith) in
       record { row = i; low = omega arith; high = l; is = bears-src code mark i ∙ t }
 
-  pub borne-dst : count dst (treeRows code mark span n) ≡ 1 → Borne mark 2 0 n
+  pub borne-dst : 0 < n → Borne mark 2 0 n
   unfolding treeRows
-  borne-dst e =
+  borne-dst z =
+      let e = Q .one-dst z in
       let (i, l, t) = count-find dst (tagAt code mark) span 0 n (shape span n) (R .laid) (omega arith) in
       record { row = i; low = omega arith; high = l; is = bears-dst code mark i (R .marked i l) ∙ t }
 
@@ -71,14 +76,14 @@ module _ {code mark kids span up : List ℕ} {n : ℕ} (R : Rows code mark kids 
   unfolding mapT
   normal-rows f l = rw (rows-top code mark kids span up n R l .shape-is)
 
-  module _ (one : (count src (treeRows code mark span n) ≡ 1) × (count dst (treeRows code mark span n) ≡ 1)) (s d : ℕ)
-      (bs : (s < n) × (bears mark 1 s ≡ true)) (bd : (d < n) × (bears mark 2 d ≡ true)) (t : ℕ) (L : Lowest span s d t) where
+  module _ (s d : ℕ) (bs : (s < n) × (bears mark 1 s ≡ true)) (bd : (d < n) × (bears mark 2 d ≡ true)) (t : ℕ) (L : Lowest span s d t) where
     form-word : Word ≡ wordOf (all (formAt code span s d t))
     form-word =
-        let T = tagged-rows R (one .0) (one .1) s d (bs .0) (bd .0) (bs .1) (bd .1) in
+        let z : 0 < n = omega (arith, bs .0) in
+        let T = tagged-rows R (Q .one-src z) (Q .one-dst z) s d (bs .0) (bd .0) (bs .1) (bd .1) in
         let l : t < n = omega (arith, L .to-s .from, bs .0) in
         ap (λ (F : Forest Tag). wordOf (normal F)) T
-        ∙ ap wordOf (normal-rows (tagged code s d) (omega arith) ∙ ap all (factors-rows R s d t l L))
+        ∙ ap wordOf (normal-rows (tagged code s d) z ∙ ap all (factors-rows R s d t l L))
 
     pub form-fits : (m : ℕ) → length Word ≤ m → length (fill 0 0 (formAt code span s d t)) ≤ m
     form-fits m l = omega (arith, ap length form-word, fill-short (formAt code span s d t))

@@ -9,8 +9,15 @@ use lib.Dec.{eqb}
 use Rattle.meaning.specs.Expression.{Expr, child}
 use Rattle.meaning.specs.Tree.{Forest, bare, tree, Tag}
 use Rattle.meaning.specs.Normal.{labelled, dstIn, off, ups, downs, aboveFactor}
-use Rattle.rows.specs.Rows.{shape, Holds, Rows}
+use Rattle.theory.proofs.Count.{count, src, dst}
+use Rattle.rows.specs.Rows.{shape, treeRows, Holds, Rows}
 use Rattle.branches.specs.Factors.{under, ownAt}
+
+-- the rows of a tree query, which has "a source s and a destination d", or no rows
+pub record QueryRows (code mark kids span up : List ℕ) (n : ℕ) : Type 0 where
+  pub rows : Rows code mark kids span up n
+  pub one-src : 0 < n → count src (treeRows code mark span n) ≡ 1
+  pub one-dst : 0 < n → count dst (treeRows code mark span n) ≡ 1
 
 -- row x lies at or below row u
 pub record Covers (span : List ℕ) (u x : ℕ) : Type 0 where

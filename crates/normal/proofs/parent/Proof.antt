@@ -16,6 +16,7 @@ shared-slice-read-result c = search needs
 -- src/lib.rt:35:5
 cast-result : tie.Need-cast-result
 cast-result c = omega (arith, c .shared-slice-known .given (c .before .args .u))
+
 -- src/lib.rt:31:1
 returns : tie.Need-returns
 returns c = search needs
