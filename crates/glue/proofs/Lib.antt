@@ -7,3 +7,5 @@ mod Depth
 mod TwoTrees
 mod Parts
 mod Operands
+mod Pushing
+mod Combining

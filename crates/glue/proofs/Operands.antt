@@ -13,6 +13,11 @@ use Rattle.glue.specs.Rows.{table, ifRows, part}
 use Rattle.glue.specs.Pool.{Pool, operand, stack, Sound, Stands}
 use Rattle.glue.proofs.Codes.{length-table, at-table, table-is}
 
+-- the latest operand
+pub stack-top : (p : Pool) (n : ℕ) → 1 ≤ n → stack p n ≡ operand p (n - 1) ∷ stack p (n - 1)
+unfolding stack
+stack-top p n pos = ap (stack p) (let q : n ≡ suc (n - 1) = omega arith in q)
+
 -- ------------------------------------------------------------------ rows that stay
 below : (a : ℕ) (P P′ : List ℕ) → take a P′ ≡ take a P → (i : ℕ) → i < a → getD P′ i 0 ≡ getD P i 0
 below a P P′ e i lt = sym (getD-take a P′ i 0 lt) ∙ ap (λ z. getD z i 0) e ∙ getD-take a P i 0 lt
@@ -63,6 +68,7 @@ module _ {p p′ : Pool} {n j v : ℕ} (st : Step p p′ n j v) where
   F = p .first
 
   step-operand : (k : ℕ) → k < j → operand p′ k ≡ operand p k
+  unfolding part
   step-operand k lt =
       rw (st .firsts k (omega arith), st .firsts (k + 1) (omega arith), st .marksS k lt, st .marksD k lt)
       (ap (λ T. ifRows (getD F (k + 1) 0 - getD F k 0) (record { rows = T; s = getD (p .s) k 0; d = getD (p .d) k 0 }))

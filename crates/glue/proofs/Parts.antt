@@ -20,17 +20,24 @@ use Rattle.glue.proofs.Codes.{rows-none, rows-some}
 
 -- ------------------------------------------------------------------ no rows, or a query
 pub part-none : (P L : List ℕ) (a b s d : ℕ) → a ≡ b → part P L a b s d ≡ none
+unfolding part
 part-none P L a b s d e = rows-none (b - a) (queryFrom a (b - a) P L s d) (omega arith)
 
 pub part-some : (P L : List ℕ) (a b s d : ℕ) → a ≤ b → a ≢ b → part P L a b s d ≡ some (queryFrom a (b - a) P L s d)
+unfolding part
 part-some P L a b s d le ne = rows-some (b - a) (queryFrom a (b - a) P L s d) (λ e. ne (omega arith))
 
-pub two-first : (f : Query → Query → Option Query) (o q : Option Query) → o ≡ none → none ≡ two f o q
-two-first f o q e = rw e
+-- "Empty in any operand gives empty."
+module _ (both : Bool) (P L : List ℕ) (a m e s1 d1 s2 d2 : ℕ) where
+  pub empty-first : a ≡ m → none ≡ two (chosen both) (part P L a m s1 d1) (part P L m e s2 d2)
+  empty-first q = ap (λ o. two (chosen both) o (part P L m e s2 d2)) (sym (part-none P L a m s1 d1 q))
 
-pub two-second : (f : Query → Query → Option Query) (o q : Option Query) → q ≡ none → none ≡ two f o q
-two-second f none q e = refl
-two-second f (some Q) q e = rw e
+  pub empty-second : m ≡ e → none ≡ two (chosen both) (part P L a m s1 d1) (part P L m e s2 d2)
+  empty-second q = go (part P L a m s1 d1) ∙ ap (two (chosen both) (part P L a m s1 d1)) (sym (part-none P L m e s2 d2 q))
+    where
+      go : (o : Option Query) → none ≡ two (chosen both) o none
+      go none = refl
+      go (some Q) = refl
 
 -- ------------------------------------------------------------------ what is lent
 -- the list from a on, as it is lent

@@ -4,15 +4,16 @@ use mathlib.Core.Path.{_≡_}
 use mathlib.Core.Bool.{Bool, true, false}
 use mathlib.Core.Option.{Option}
 use mathlib.Core.List.{List, [], _∷_, map}
-use Prim.Native.Nat.{ℕ, zero, suc, _+_, _≤_, _<_}
-use lib.ListN.{length, getD}
+use Prim.Native.Nat.{ℕ, zero, suc, _+_, _-_, _≤_, _<_}
+use lib.ListN.{length, getD, take, drop}
 use Rattle.meaning.specs.Basics.{mapped}
 use Rattle.meaning.specs.Expression.{Expr, steps}
 use Rattle.meaning.specs.TreeQuery.{Query}
 use Rattle.meaning.specs.Gluing.{composed, intersected, two, plain}
 use Rattle.meaning.specs.Word.{Pending, takes, answered}
 use Rattle.theory.proofs.Plain.{TreeO}
-use Rattle.glue.specs.Rows.{part}
+use Rattle.glue.specs.declared.gluing.Built.{Built}
+use Rattle.glue.specs.Rows.{part, builtOf}
 
 pub record Pool : Type 0 where
   pub parent : List ℕ
@@ -64,6 +65,12 @@ abbrev pub combined : Bool → List (Option Query) → List (Option Query)
 combined both [] = []
 combined both (q ∷ []) = []
 combined both (q ∷ (p ∷ qs)) = two (chosen both) p q ∷ qs
+
+-- the two latest operands of p are glued to r in the lists P′ and L′, and the rows below them stay
+pub record Latest (p : Pool) (n : ℕ) (both : Bool) (r : Built) (P′ L′ : List ℕ) : Type 0 where
+  pub whole : builtOf r (drop (getD (p .first) (n - 2) 0) P′) (drop (getD (p .first) (n - 2) 0) L′) ≡ two (chosen both) (operand p (n - 2)) (operand p (n - 1))
+  pub parents : take (getD (p .first) (n - 2) 0) P′ ≡ take (getD (p .first) (n - 2) 0) (p .parent)
+  pub labels : take (getD (p .first) (n - 2) 0) L′ ≡ take (getD (p .first) (n - 2) 0) (p .label)
 
 -- signs 5, 6 and 8: the marks of the latest operand move
 abbrev pub onTop : (Query → Query) → List (Option Query) → List (Option Query)

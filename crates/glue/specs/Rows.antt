@@ -69,7 +69,7 @@ abbrev pub queryFrom : ℕ → ℕ → List ℕ → List ℕ → ℕ → ℕ →
 queryFrom a n P L s d = query n (drop a P) (drop a L) s d
 
 -- the query whose rows are those from a up to b; none where there are no rows
-abbrev pub part : List ℕ → List ℕ → ℕ → ℕ → ℕ → ℕ → Option Query
+unfoldable pub part : List ℕ → List ℕ → ℕ → ℕ → ℕ → ℕ → Option Query
 part P L a b s d = ifRows (b - a) (queryFrom a (b - a) P L s d)
 
 abbrev pub builtOf : Built → List ℕ → List ℕ → Option Query

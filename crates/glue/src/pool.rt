@@ -13,7 +13,7 @@ ghost use Rattle.meaning.specs.Gluing.{two, oneNode, twoNodes, bothAtS, bothAtD
 ghost use Rattle.rows.specs.Rows.{labOf};
 ghost use Rattle.theory.proofs.Plain.{TreeO};
 ghost use Rattle.glue.specs.Rows.{Room, part, builtOf};
-ghost use Rattle.glue.specs.Pool.{pool, stack, Sound, Stands, Trees, chosen, combined, onTop};
+ghost use Rattle.glue.specs.Pool.{pool, stack, Sound, Stands, Trees, Latest, chosen, combined, onTop};
 
 // Entry i as a number that counts rows.
 pub fn entry(t: &[u16], i: usize) -> usize
@@ -60,7 +60,20 @@ fn glue_at(parent: &mut [u16], label: &mut [u32], a: usize, m: usize, e: usize, 
     compose(&mut parent[a..], &mut label[a..], m - a, e - m, s1, d1, s2, d2)
 }
 
-// "Signs 4 and 7 take the two latest operands, the earlier as first".
+// The two latest operands, the earlier as first, glued in one of the two ways.
+fn glue_latest(parent: &mut [u16], label: &mut [u32], first: &[u16], s: &[u16], d: &[u16], pending: usize, both: bool) -> Built
+    requires { ⌜ (2 ≤ pending) × Sound (pool (now parent) (now label) (now first) (now s) (now d)) pending × Trees (pool (now parent) (now label) (now first) (now s) (now d)) pending ⌝ }
+    ensures { λ r. ⌜ Latest (pool (now (parent .entry)) (now (label .entry)) (now (first .entry)) (now (s .entry)) (now (d .entry))) pending both r (now (parent .exit)) (now (label .exit)) ⌝ }
+{
+    let k = pending - 2;
+    let l = pending - 1;
+    let a = entry(first, k);
+    let m = entry(first, l);
+    let e = entry(first, pending);
+    glue_at(parent, label, a, m, e, entry(s, k), entry(d, k), entry(s, l), entry(d, l), both)
+}
+
+// "Signs 4 and 7 take the two latest operands, the earlier as first": their rows are used again for what comes of them.
 pub fn combine(parent: &mut [u16], label: &mut [u32], first: &mut [u16], s: &mut [u16], d: &mut [u16], pending: usize, both: bool) -> usize
     requires { ⌜ (2 ≤ pending) × Sound (pool (now parent) (now label) (now first) (now s) (now d)) pending × Trees (pool (now parent) (now label) (now first) (now s) (now d)) pending ⌝ }
     ensures { λ r. ⌜ Stands (pool (now (parent .exit)) (now (label .exit)) (now (first .exit)) (now (s .exit)) (now (d .exit))) r (combined both (stack (pool (now (parent .entry)) (now (label .entry)) (now (first .entry)) (now (s .entry)) (now (d .entry))) pending)) ⌝ }
@@ -68,9 +81,7 @@ pub fn combine(parent: &mut [u16], label: &mut [u32], first: &mut [u16], s: &mut
     let k = pending - 2;
     let l = pending - 1;
     let a = entry(first, k);
-    let m = entry(first, l);
-    let e = entry(first, pending);
-    let r = glue_at(parent, label, a, m, e, entry(s, k), entry(d, k), entry(s, l), entry(d, l), both);
+    let r = glue_latest(parent, label, first, s, d, pending, both);
     if r.rows == 0 {
         put(first, l, a);
         return l;

@@ -1,4 +1,8 @@
 use borrow.Author.Needs.{needs}
+use Rattle.glue.specs.Pool.{pool}
+use mathlib.Core.Path.{refl}
+use Rattle.glue.proofs.Pushing.{second-stands}
+use borrow.Author.Needs.{needs}
 use Rattle.glue.proofs.pool.both_at_d.Statement.{statement}
 use Rattle.glue.proofs.pool.both_at_d.Tie as tie
 use Rattle.glue.proofs.pool.both_at_d.Reads as reads
@@ -6,25 +10,19 @@ use Rattle.glue.proofs.pool.both_at_d.Lts as lts
 use Rattle.glue.proofs.pool.entry.Reads as entry-reads
 use Rattle.glue.proofs.pool.put.Reads as put-reads
 
--- src/pool.rt:133:13
 sub-k : tie.Need-sub-k
 sub-k c = search needs
 
--- src/pool.rt:134:15
 entry-requires : tie.Need-entry-requires
 entry-requires c κs = search needs
 
--- src/pool.rt:134:5
 put-requires : tie.Need-put-requires
 put-requires c κs = search needs
 
--- src/pool.rt:129:1
 same-length : tie.Need-same-length
 same-length c = search needs
 
--- src/pool.rt:129:1
 returns : tie.Need-returns
-returns c = ?
-
+returns c = λ P L F sound. second-stands (pool P L F _ _) _ sound (c .before .before .before .before .before .before .before .pre .0) _ _ refl (c .before .before .before .entry .ensures .0) _ (c .before .before .put .ensures)
 pub both-at-d-spec : {M : Type 1} → statement M
 both-at-d-spec = tie.close (tie.spec sub-k entry-requires put-requires same-length returns)
