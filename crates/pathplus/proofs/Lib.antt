@@ -1,2 +1,3 @@
 mod Writing
 mod Asking
+mod Numbers

@@ -7,7 +7,7 @@ use Prim.Native.Nat.{ℕ, _≤_, _<_}
 use native.Mathlib.Omega.{arith}
 use lib.ListN.{length, drop}
 use lib.Dec.{ltb}
-use borrow.Author.Tests.{lt-ltb, le-ltb}
+use borrow.Author.Tests.{lt-ltb, le-ltb, ltb-false}
 use Rattle.meaning.specs.Expression.{Expr}
 use Rattle.meaning.specs.TreeQuery.{Query}
 use Rattle.meaning.specs.Gluing.{plain}
@@ -15,6 +15,13 @@ use Rattle.meaning.specs.Word.{Outcome, refused, answered, andThen, readWord}
 use Rattle.meaning.specs.Promise.{fitting, written, lengthOf, roomAfter, Writes}
 use Rattle.groups.specs.Put.{put}
 use Rattle.groups.proofs.Put.{put-front}
+
+answered-same : {A : Type 0} (a b : A) → answered a ≡ answered b → a ≡ b
+answered-same {A = A} a b e = ap get e
+  where
+    get : Outcome A → A
+    get (refused n p) = a
+    get (answered x) = x
 
 module _ (form : Option Query → List ℕ) (word room : List ℕ) where
   written-is : (o : Outcome Expr) → readWord word ≡ o → written form word room ≡ andThen o (λ e. fitting room (form (plain e)))
@@ -42,3 +49,16 @@ module _ (form : Option Query → List ℕ) (word room : List ℕ) where
       subst (λ z. Writes form word room (answered z) after) (sym ek)
         (subst (Writes form word room (answered (length (form (plain e))))) (sym (ea ∙ put-front room (form (plain e)) fits))
           (writes-as (answered (form (plain e))) (written-is (answered e) r ∙ ap (λ b. cond b (refused 7 (length (form (plain e)))) (answered (form (plain e)))) (le-ltb (length room) (length (form (plain e))) fits))))
+
+-- what a writer says it has written is in the room
+pub done-fits : (form : Option Query → List ℕ) (word room : List ℕ) (k : ℕ) (after : List ℕ) → Writes form word room (answered k) after → k ≤ length room
+unfolding written
+done-fits form word room k after w = go (readWord word) (w .returned)
+  where
+    same : (b : Bool) (bytes : List ℕ) → ltb (length room) (length bytes) ≡ b → answered k ≡ lengthOf (cond b (refused 7 (length bytes)) (answered bytes)) → k ≤ length room
+    same true bytes t e = let z : _≡_ {A = ℕ} 0 1 = cc in absurd (omega arith)
+    same false bytes t e = let z : k ≡ length bytes = answered-same k (length bytes) e in let l = ltb-false (length room) (length bytes) t in omega arith
+
+    go : (o : Outcome Expr) → answered k ≡ lengthOf (andThen o (λ e. fitting room (form (plain e)))) → k ≤ length room
+    go (refused n p) e = let z : _≡_ {A = ℕ} 0 1 = cc in absurd (omega arith)
+    go (answered f) e = same (ltb (length room) (length (form (plain f)))) (form (plain f)) refl e
