@@ -1,5 +1,5 @@
 -- Laws of the row that a query node starts with: the nodes whose label fits, eight to a byte.
-use mathlib.Core.Path.{_≡_, refl, sym, ap, _∙_}
+use mathlib.Core.Path.{_≡_, refl, sym, _∙_}
 use mathlib.Core.Logic.{_↔_}
 use mathlib.Core.List.{List}
 use mathlib.Core.Bool.{Bool, true, false}
@@ -9,9 +9,7 @@ use native.Mathlib.Decide.{ℕ-discrete, decLt}
 use lib.ListN.{length, getD, set}
 use lib.Dec.{eqb}
 use borrow.Author.Tests.{eqb-true, eq-eqb, ne-eqb}
-use Rattle.meaning.specs.TreeQuery.{Fits}
 use Rattle.meaning.specs.Matching.{bitAt}
-use Rattle.rows.specs.Rows.{labOf}
 use Rattle.bits.specs.Bits.{bitOf, OnlyRow, BitSet, Packed}
 use Rattle.bits.proofs.Bits.{all-bits, store-here, store-other}
 use Rattle.matching.specs.Table.{Suits, RowUpTo, RowIs, RowClear}

@@ -9,7 +9,7 @@ use native.Mathlib.Decide.{ℕ-discrete, decLt}
 use lib.ListN.{length, getD}
 use lib.Dec.{eqb, ltb}
 use lib.Bits.{bitAnd}
-use borrow.Author.Tests.{eqb-true, eq-eqb, ltb-true, lt-ltb}
+use borrow.Author.Tests.{eqb-true, eq-eqb, ltb-true}
 use Rattle.bits.proofs.Bits.{and-one}
 use Rattle.rows.specs.Rows.{tagAt, shape, mapT, treeRows, Holds}
 use Rattle.rows.proofs.Rows.{size-holds}

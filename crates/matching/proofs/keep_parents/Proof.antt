@@ -1,11 +1,10 @@
+-- No flag is set at first, so the flags are the parents.
 use native.Mathlib.Omega.{arith}
 use lib.ListN.{getD-replicate}
 use Rattle.matching.proofs.Kinship.{kept}
 use borrow.Author.Needs.{needs}
 use Rattle.matching.proofs.keep_parents.Statement.{statement}
 use Rattle.matching.proofs.keep_parents.Tie as tie
-use Rattle.bits.proofs.meet.Reads as meet-reads
-use Rattle.matching.proofs.mark_row.Reads as mark-row-reads
 
 slice-aggregate-mark-row : tie.Need-slice-aggregate-mark-row
 slice-aggregate-mark-row c = search needs
@@ -27,6 +26,7 @@ same-length c = search needs
 
 returns : tie.Need-returns
 returns c = kept _ _ _ _ _ _ _ (λ i l. getD-replicate 1024 i 0 0 l) (λ v l t. let z = c .before .before .before .before .before .before .before .before .before .before .before .pre .5 v l t in omega arith) (c .before .before .before .before .before .before .mark-row .ensures) (c .before .before .meet .ensures)
+
 pub keep-parents-spec : {M : Type 1} → statement M
 keep-parents-spec =
     tie.close
