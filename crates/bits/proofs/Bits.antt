@@ -12,7 +12,7 @@ use lib.Dec.{eqb, lit<}
 use lib.Pow.{pow-lt, pow-add, shl-shr, shl-exact, shr-shr}
 use lib.Bits.{bitAnd, bitOr, and-mask, and-shr, and-mod, or-shr, or-mod, or-zero-r}
 use Rattle.meaning.specs.Matching.{bitAt}
-use Rattle.bits.specs.Bits.{bitOf, BitPut, OnlyRow, BitSet, Met, Cleared}
+use Rattle.bits.specs.Bits.{bitOf, BitPut, OnlyRow, BitSet, Packed, Met, Cleared}
 
 -- ------------------------------------------------------------------ bits of a byte
 -- (n >> ..) & 1
@@ -89,6 +89,34 @@ pub zero-bit : (k : ℕ) → bitOf 0 k ≡ false
 unfolding bitOf
 zero-bit k = rw (zero-div (2 ^ k))
 
+-- a byte filled from its lowest bit up
+pub packed-none : (g : ℕ → Bool) → Packed g 0 0
+packed-none g = record { low = λ j l. absurd (omega arith); high = λ j l. zero-bit j }
+
+pub packed-more : (g : ℕ → Bool) (k b r : ℕ) → Packed g k b → BitPut b k (g k) r → Packed g (k + 1) r
+packed-more g k b r t p = record { low = λ j l. go j l (ℕ-discrete j k); high = λ j l. p .other j (λ e. omega arith) ∙ t .high j (omega arith) }
+  where
+    or-false : (x y : Bool) → y ≡ false → (x || y) ≡ x
+    or-false true y e = refl
+    or-false false y e = e
+
+    go : (j : ℕ) → j < k + 1 → Dec (j ≡ k) → bitOf r j ≡ g j
+    go j l (yes e) = rw e (p .here ∙ or-false (g k) (bitOf b k) (t .high k (omega arith)))
+    go j l (no e) = p .other j e ∙ t .low j (omega arith)
+
+-- the byte in which all eight bits are set
+pub all-bits : (k : ℕ) → k < 8 → bitOf 255 k ≡ true
+unfolding bitOf
+all-bits zero l = refl
+all-bits (suc zero) l = refl
+all-bits (suc (suc zero)) l = refl
+all-bits (suc (suc (suc zero))) l = refl
+all-bits (suc (suc (suc (suc zero)))) l = refl
+all-bits (suc (suc (suc (suc (suc zero))))) l = refl
+all-bits (suc (suc (suc (suc (suc (suc zero)))))) l = refl
+all-bits (suc (suc (suc (suc (suc (suc (suc zero))))))) l = refl
+all-bits (suc (suc (suc (suc (suc (suc (suc (suc k)))))))) l = absurd (omega arith)
+
 -- the lowest bit of a byte, and the others, one place lower after a shift
 pub low-bit : (b : ℕ) → bitOf b 0 ≡ eqb (b % 2) 1
 unfolding bitOf
@@ -156,25 +184,32 @@ bit-set w u v lv lw = rw (one-shl (v % 8) (omega arith)) (go (bitOr (getD w (128
 pub met-none : (w : List ℕ) (u : ℕ) (h : List ℕ) → Met w u h 0 w
 met-none w u h = record { only = only-refl w u; both = λ v l. absurd (omega arith); behind = λ v l m. refl }
 
-pub met-more : (w : List ℕ) (u : ℕ) (h b : List ℕ) (i : ℕ) → i < 128 → 128 * u + 128 ≤ length w → Met w u h (8 * i) b
-    → Met w u h (8 * (i + 1)) (set b (128 * u + i) (bitAnd (getD b (128 * u + i) 0) (getD h i 0)))
-met-more w u h b i l lw m = go (bitAnd (getD b (128 * u + i) 0) (getD h i 0)) refl (rw (m .only .same) lw)
+pub met-more : (w : List ℕ) (u : ℕ) (h b : List ℕ) (i o : ℕ) → i < 128 → 128 * u + 128 ≤ length w
+    → ((k : ℕ) → k < 8 → bitOf o k ≡ (bitOf (getD b (128 * u + i) 0) k && eqb (getD h (8 * i + k) 0) 1)) → Met w u h (8 * i) b
+    → Met w u h (8 * (i + 1)) (set b (128 * u + i) o)
+met-more w u h b i o l lw f m = go (rw (m .only .same) lw)
   where
-    go : (o : ℕ) → o ≡ bitAnd (getD b (128 * u + i) 0) (getD h i 0) → 128 * u + 128 ≤ length b → Met w u h (8 * (i + 1)) (set b (128 * u + i) o)
-    go o e lb =
+    go : 128 * u + 128 ≤ length b → Met w u h (8 * (i + 1)) (set b (128 * u + i) o)
+    go lb =
         record {
           only = only-then w b (set b (128 * u + i) o) u (m .only) (store-only b u i o l lb);
           both = λ v lv. both v lv (ℕ-discrete (v / 8) i);
           behind = λ v lv lv′. store-other b u i o l lb v (λ q. omega arith) ∙ m .behind v (omega arith) lv′;
         }
       where
-        both : (v : ℕ) → v < 8 * (i + 1) → Dec (v / 8 ≡ i) → bitAt (set b (128 * u + i) o) u v ≡ (bitAt w u v && bitAt h 0 v)
+        both : (v : ℕ) → v < 8 * (i + 1) → Dec (v / 8 ≡ i) → bitAt (set b (128 * u + i) o) u v ≡ (bitAt w u v && eqb (getD h v 0) 1)
         both v lv (no q) = store-other b u i o l lb v q ∙ m .both v (omega arith)
         both v lv (yes q) =
-            let z : 128 * 0 + v / 8 ≡ i = omega arith in
-            let hv : bitAt h 0 v ≡ bitOf (getD h i 0) (v % 8) = rw (bit-byte h 0 v, z) in
+            let z : 8 * i + v % 8 ≡ v = omega arith in
             let bv : bitAt w u v ≡ bitOf (getD b (128 * u + i) 0) (v % 8) = sym (m .behind v (omega arith) (omega arith)) ∙ rw (bit-byte b u v, q) in
-            store-here b u i o l lb v q ∙ rw (e, hv, bv) (and-of (getD b (128 * u + i) 0) (getD h i 0) (v % 8))
+            store-here b u i o l lb v q ∙ rw bv (rw z at (f (v % 8) (omega arith)))
+
+-- the bits of a byte that have their flags
+pub flagged-none : (b : ℕ) (g : ℕ → Bool) → b ≡ 0 → (k : ℕ) → k < 8 → bitOf 0 k ≡ (bitOf b k && g k)
+flagged-none b g e k l = rw (e, zero-bit k)
+
+pub flagged-some : (b f : ℕ) (g : ℕ → Bool) → Packed g 8 f → (k : ℕ) → k < 8 → bitOf (bitAnd b f) k ≡ (bitOf b k && g k)
+flagged-some b f g p k l = rw (← p .low k l) (and-of b f k)
 
 -- bytes that are 0, one more of them
 pub more-zero : (w : List ℕ) (u e : ℕ) → ((i : ℕ) → i < e → getD w (128 * u + i) 0 ≡ 0) → getD w (128 * u + e) 0 ≡ 0

@@ -28,10 +28,15 @@ pub record BitSet (w : List ℕ) (u v : ℕ) (b : List ℕ) : Type 0 where
   pub here : bitAt b u v ≡ true
   pub other : (x : ℕ) → x < 1024 → (x ≡ v → ⊥) → bitAt b u x ≡ bitAt w u x
 
--- row u of b is what row u of w and the row h have in common, up to bit e; behind it row u is as it was
-pub record Met (w : List ℕ) (u : ℕ) (h : List ℕ) (e : ℕ) (b : List ℕ) : Type 0 where
+-- the byte b has the bits that g gives, up to bit k, and no others
+pub record Packed (g : ℕ → Bool) (k b : ℕ) : Type 0 where
+  pub low : (j : ℕ) → j < k → bitOf b j ≡ g j
+  pub high : (j : ℕ) → k ≤ j → bitOf b j ≡ false
+
+-- row u of b has the bits of row u of w whose flags are 1, up to bit e; behind it row u is as it was
+pub record Met (w : List ℕ) (u : ℕ) (flags : List ℕ) (e : ℕ) (b : List ℕ) : Type 0 where
   pub only : OnlyRow w u b
-  pub both : (v : ℕ) → v < e → bitAt b u v ≡ (bitAt w u v && bitAt h 0 v)
+  pub both : (v : ℕ) → v < e → bitAt b u v ≡ (bitAt w u v && eqb (getD flags v 0) 1)
   pub behind : (v : ℕ) → e ≤ v → v < 1024 → bitAt b u v ≡ bitAt w u v
 
 -- the first e bytes are clear, the later ones are as they were

@@ -1,11 +1,12 @@
 // Rows of bits in lent bytes: bit v of row u is "bit v mod 8 of byte 128u + v div 8 (lowest bit is 0)".
 // A match table has 256 such rows, a row of its own has one; both are read and written by the same functions.
 ghost use mathlib.Core.Path.{_≡_};
-ghost use mathlib.Core.Bool.{true, false};
+ghost use mathlib.Core.Bool.{true, false, _&&_};
 ghost use Prim.Native.Nat.{ℕ, _+_, _*_, _≤_, _<_};
-ghost use lib.ListN.{length};
+ghost use lib.ListN.{length, getD};
+ghost use lib.Dec.{eqb};
 ghost use Rattle.meaning.specs.Matching.{bitAt};
-ghost use Rattle.bits.specs.Bits.{bitOf, BitPut, BitSet, Met, Cleared};
+ghost use Rattle.bits.specs.Bits.{bitOf, BitPut, BitSet, Packed, Met, Cleared};
 
 // The byte with bit k set if `on` says so.
 pub fn with_bit(b: u8, k: usize, on: bool) -> u8
@@ -38,15 +39,40 @@ pub fn set_bit(w: &mut [u8], u: usize, v: usize)
     w[i] = w[i] | (1 << k);
 }
 
-// Takes from row u what the row h has not.
-pub fn meet(w: &mut [u8], u: usize, h: &[u8])
-    requires { ⌜ (u < 256) × (128 * u + 128 ≤ length (now w)) × (128 ≤ length (now h)) ⌝ }
-    ensures { λ _. ⌜ Met (now (w .entry)) u (now (h .entry)) 1024 (now (w .exit)) ⌝ }
+// Eight flags as the bits of a byte.
+fn flag_byte(flags: &[u8], from: usize) -> u8
+    requires { ⌜ (from < 1024) × (from + 8 ≤ length (now flags)) ⌝ }
+    ensures { λ r. ⌜ Packed (λ k. eqb (getD (now (flags .entry)) (from + k) 0) 1) 8 r ⌝ }
+{
+    let mut b: u8 = 0;
+    let mut k: usize = 0;
+    while k < 8 {
+        b = with_bit(b, k, flags[from + k] == 1);
+        k += 1;
+    }
+    b
+}
+
+// The bits of b whose flags are 1. Where no bit is set no flag is read.
+fn flagged(b: u8, flags: &[u8], from: usize) -> u8
+    requires { ⌜ (from < 1024) × (from + 8 ≤ length (now flags)) ⌝ }
+    ensures { λ r. ⌜ ((k : ℕ) → k < 8 → bitOf r k ≡ (bitOf b k && eqb (getD (now (flags .entry)) (from + k) 0) 1)) ⌝ }
+{
+    if b == 0 {
+        return 0;
+    }
+    b & flag_byte(flags, from)
+}
+
+// Takes from the first bytes of row u the bits whose flags are not 1.
+pub fn meet(w: &mut [u8], u: usize, flags: &[u8], bytes: usize)
+    requires { ⌜ (u < 256) × (128 * u + 128 ≤ length (now w)) × (1024 ≤ length (now flags)) × (bytes ≤ 128) ⌝ }
+    ensures { λ _. ⌜ Met (now (w .entry)) u (now (flags .entry)) (8 * bytes) (now (w .exit)) ⌝ }
 {
     let at = 128 * u;
     let mut i: usize = 0;
-    while i < 128 {
-        w[at + i] = w[at + i] & h[i];
+    while i < bytes {
+        w[at + i] = flagged(w[at + i], flags, 8 * i);
         i += 1;
     }
 }

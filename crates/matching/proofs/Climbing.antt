@@ -2,8 +2,8 @@
 use mathlib.Core.Path.{_≡_, refl, sym, ap, _∙_}
 use mathlib.Core.Logic.{_↔_, _⊎_, inl, inr}
 use mathlib.Core.List.{List}
-use mathlib.Core.Bool.{Bool, true, false, cond}
-use Prim.Native.Nat.{ℕ, zero, suc, _+_, _≤_, _<_}
+use mathlib.Core.Bool.{true, cond}
+use Prim.Native.Nat.{ℕ, suc, _+_, _≤_, _<_}
 use native.Mathlib.Omega.{arith}
 use native.Mathlib.Decide.{ℕ-discrete, decLt}
 use lib.ListN.{length, getD}
@@ -12,10 +12,8 @@ use borrow.Author.Tests.{eq-eqb, ne-eqb}
 use Rattle.meaning.specs.Tree.{Forest, bare, tree, size}
 use Rattle.meaning.specs.Matching.{bitAt}
 use Rattle.rows.specs.Rows.{Holds, Hung, below, Rows}
-use Rattle.rows.proofs.Rows.{size-holds, holds-opens, row-opens, row-kids, row-up}
+use Rattle.rows.proofs.Rows.{holds-opens, row-opens, row-kids, row-up}
 use Rattle.matching.specs.Pair.{Asked, Placed, WayLaid, OneWay, TwoWays}
-use Rattle.matching.proofs.Tables.{good-table}
-use Rattle.matching.proofs.Labels.{true-false}
 
 -- among rows that hang below p, from row u on, each one's parent is p or stands at u or behind it
 hung-from : (up span : List ℕ) (p u e : ℕ) (F : Forest ℕ) → Holds span u e F → Hung up p F → (c : ℕ) → u ≤ c → c < e → (getD up c 0 ≡ p) ⊎ (u ≤ getD up c 0)
@@ -72,7 +70,7 @@ module _ (w mark up P : List ℕ) (q : Asked w mark up P) where
     pub here : Placed w up P h u
     pub rest : 0 < u → WayLaid w up P (q .span) h (getD up u 0)
 
-  way-steps : (h : ℕ → ℕ) (u : ℕ) → u < (q .rows) → WayLaid w up P (q .span) h u → Steps h u
+  way-steps : (h : ℕ → ℕ) (u : ℕ) → u < q .rows → WayLaid w up P (q .span) h u → Steps h u
   way-steps h u l f =
       let o = row-opens (q .span) (q .rows) (R .laid) u l .some in
       record {
@@ -82,7 +80,7 @@ module _ (w mark up P : List ℕ) (q : Asked w mark up P) where
             f c (omega arith) (above-up (q .code) mark (q .kids) (q .span) up (q .rows) R u c z l a b);
       }
 
-  steps-way : (h : ℕ → ℕ) (u : ℕ) → u < (q .rows) → Steps h u → WayLaid w up P (q .span) h u
+  steps-way : (h : ℕ → ℕ) (u : ℕ) → u < q .rows → Steps h u → WayLaid w up P (q .span) h u
   steps-way h u l s c a b = go (ℕ-discrete c u)
     where
       go : Dec (c ≡ u) → Placed w up P h c
@@ -92,7 +90,7 @@ module _ (w mark up P : List ℕ) (q : Asked w mark up P) where
           s .rest (omega arith) c (up-above (q .code) mark (q .kids) (q .span) up (q .rows) R u c l (omega arith) b) (omega arith)
 
   -- only the places of the (q .rows) up to u matter
-  way-same : (h h′ : ℕ → ℕ) (u : ℕ) → u < (q .rows) → ((c : ℕ) → c ≤ u → h′ c ≡ h c) → WayLaid w up P (q .span) h u → WayLaid w up P (q .span) h′ u
+  way-same : (h h′ : ℕ → ℕ) (u : ℕ) → u < q .rows → ((c : ℕ) → c ≤ u → h′ c ≡ h c) → WayLaid w up P (q .span) h u → WayLaid w up P (q .span) h′ u
   way-same h h′ u l e f c a b =
       let g = f c a b in
       record {
@@ -116,7 +114,7 @@ module _ (w mark up P : List ℕ) (q : Asked w mark up P) where
   Step u x = (0 < x) × (bitAt w u x ≡ true)
 
   -- the way up from u by a first step
-  put-way : (h : ℕ → ℕ) (u x : ℕ) → 0 < u → u < (q .rows) → x < length P → Step u x → h (getD up u 0) ≡ getD P x 0 → WayLaid w up P (q .span) h (getD up u 0)
+  put-way : (h : ℕ → ℕ) (u x : ℕ) → 0 < u → u < q .rows → x < length P → Step u x → h (getD up u 0) ≡ getD P x 0 → WayLaid w up P (q .span) h (getD up u 0)
       → WayLaid w up P (q .span) (put h u x) u
   put-way h u x z l lx s e f =
       let y = row-up (q .code) mark (q .kids) (q .span) up (q .rows) R u z l .0 in
@@ -131,13 +129,13 @@ module _ (w mark up P : List ℕ) (q : Asked w mark up P) where
       })
 
   -- ---------------------------------------------------------------- one way
-  pub one-top : (x : ℕ) → 0 < (q .rows) → x < length P → OneWay w up P (q .span) 0 x ↔ (bitAt w 0 x ≡ true)
+  pub one-top : (x : ℕ) → 0 < q .rows → x < length P → OneWay w up P (q .span) 0 x ↔ (bitAt w 0 x ≡ true)
   one-top x l lx = (
     λ (h, e, f). rw e at (way-steps h 0 l f .here .bit),
     λ b. (λ _. x, refl, steps-way (λ _. x) 0 l (record { here = record { inside = lx; bit = b; edge = λ z. absurd (omega arith) }; rest = λ z. absurd (omega arith) })),
   )
 
-  pub one-step : (u x : ℕ) → 0 < u → u < (q .rows) → x < length P → OneWay w up P (q .span) u x ↔ (Step u x × OneWay w up P (q .span) (getD up u 0) (getD P x 0))
+  pub one-step : (u x : ℕ) → 0 < u → u < q .rows → x < length P → OneWay w up P (q .span) u x ↔ (Step u x × OneWay w up P (q .span) (getD up u 0) (getD P x 0))
   one-step u x z l lx = (to, from)
     where
       to : OneWay w up P (q .span) u x → Step u x × OneWay w up P (q .span) (getD up u 0) (getD P x 0)
@@ -158,7 +156,7 @@ module _ (w mark up P : List ℕ) (q : Asked w mark up P) where
   two-meet u x v y e = (λ (h, a, b, f, g). (sym a ∙ ap h e ∙ b, (h, a, f)), λ (z, (h, a, f)). (h, a, ap h (sym e) ∙ a ∙ z, f, rw (← e) f))
 
   -- the later row steps up
-  pub two-step : (u x v y : ℕ) → v < u → u < (q .rows) → x < length P
+  pub two-step : (u x v y : ℕ) → v < u → u < q .rows → x < length P
       → TwoWays w up P (q .span) u x v y ↔ (Step u x × TwoWays w up P (q .span) (getD up u 0) (getD P x 0) v y)
   two-step u x v y lv l lx = (to, from)
     where

@@ -1,26 +1,24 @@
 -- The match table is filled from the last row to the first: a row starts with the nodes whose label fits, each child takes away those that have
 -- no child in its row, and what is left is where the node with all below it can be laid.
-use mathlib.Core.Path.{_≡_, refl, sym, subst, _∙_}
+use mathlib.Core.Path.{_≡_, sym, subst, _∙_}
 use mathlib.Core.Logic.{_↔_, _⊎_, inl, inr}
-use mathlib.Core.Option.{Option, none, some}
+use mathlib.Core.Option.{Option, some}
 use mathlib.Core.List.{List, []}
-use mathlib.Core.Bool.{Bool, true, false}
-use Prim.Native.Nat.{ℕ, zero, suc, _+_, _-_, _*_, _/_, _≤_, _<_}
+use mathlib.Core.Bool.{true}
+use Prim.Native.Nat.{ℕ, _+_, _-_, _*_, _≤_, _<_}
 use native.Mathlib.Omega.{arith}
 use native.Mathlib.Numerals.{add-one}
 use native.Mathlib.Decide.{ℕ-discrete, decLt}
 use lib.ListN.{length, getD}
-use Rattle.meaning.specs.Basics.{look}
-use Rattle.meaning.specs.Document.{Doc, In, Child, labelOf}
-use Rattle.meaning.specs.TreeQuery.{Fits}
-use Rattle.meaning.specs.Tree.{Forest, bare, tree, Tag, Lays, preorder, size}
+use Rattle.meaning.specs.Document.{Doc, Child}
+use Rattle.meaning.specs.Tree.{Forest, bare, tree, Tag, Lays}
 use Rattle.meaning.specs.Matching.{goodTable, docOf, bitAt, OnLabel, LaysAt, CanLie, MatchTable, tableBytes}
 use Rattle.bits.specs.Bits.{OnlyRow, Cleared}
-use Rattle.bits.proofs.Bits.{only-refl, only-then, other-row, no-bits}
-use Rattle.rows.specs.Rows.{labOf, tagAt, below, shape, mapT, treeRows, Holds}
+use Rattle.bits.proofs.Bits.{other-row, no-bits}
+use Rattle.rows.specs.Rows.{tagAt, below, shape, mapT, treeRows, Holds}
 use Rattle.rows.proofs.Rows.{size-holds, holds-first, holds-opens, row-opens, row-node, row-beyond}
-use Rattle.matching.specs.Table.{Suits, Parents, ParentOf, RowIs, RowClear, Query, Lies, RowsFrom, Ready, Filled}
-use Rattle.matching.proofs.Tables.{Good, good-table, good-parents, in-doc, label-doc, child-doc}
+use Rattle.matching.specs.Table.{Suits, ParentOf, RowIs, RowClear, Query, Lies, RowsFrom, Ready, Filled}
+use Rattle.matching.proofs.Tables.{Good, good-table, in-doc, label-doc, child-doc}
 use Rattle.matching.proofs.Labels.{true-false, iff-same}
 
 -- ------------------------------------------------------------------ what a bit says

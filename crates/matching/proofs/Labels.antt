@@ -1,20 +1,18 @@
 -- Laws of the row that a query node starts with: the nodes whose label fits, eight to a byte.
-use mathlib.Core.Path.{_≡_, refl, sym, ap, _∙_}
+use mathlib.Core.Path.{_≡_, refl, sym, _∙_}
 use mathlib.Core.Logic.{_↔_}
 use mathlib.Core.List.{List}
-use mathlib.Core.Bool.{Bool, true, false, _||_}
+use mathlib.Core.Bool.{Bool, true, false}
 use Prim.Native.Nat.{ℕ, zero, suc, _+_, _-_, _*_, _/_, _%_, _≤_, _<_}
 use native.Mathlib.Omega.{arith}
 use native.Mathlib.Decide.{ℕ-discrete, decLt}
 use lib.ListN.{length, getD, set}
 use lib.Dec.{eqb}
-use borrow.Author.Tests.{eqb-true, eq-eqb}
-use Rattle.meaning.specs.TreeQuery.{Fits}
+use borrow.Author.Tests.{eqb-true, eq-eqb, ne-eqb}
 use Rattle.meaning.specs.Matching.{bitAt}
-use Rattle.rows.specs.Rows.{labOf}
-use Rattle.bits.specs.Bits.{bitOf, BitPut, OnlyRow}
-use Rattle.bits.proofs.Bits.{zero-bit, only-refl, only-then, store-only, store-here, store-other}
-use Rattle.matching.specs.Table.{Suits, RowIs, RowClear}
+use Rattle.bits.specs.Bits.{bitOf, OnlyRow, BitSet, Packed}
+use Rattle.bits.proofs.Bits.{all-bits, store-here, store-other}
+use Rattle.matching.specs.Table.{Suits, RowUpTo, RowIs, RowClear}
 
 pub true-false : {A : Type 0} → true ≡ false → A
 true-false e = let z : _≡_ {A = ℕ} 0 1 = cc in absurd (omega arith)
@@ -24,9 +22,6 @@ pub iff-same : {a b : Bool} {P : Type 0} → a ≡ b → (b ≡ true) ↔ P → 
 iff-same e p = (λ t. p .0 (sym e ∙ t), λ x. e ∙ p .1 x)
 
 -- ------------------------------------------------------------------ one node
-pub fit-out : (code : ℕ) (L : List ℕ) (x : ℕ) → length L ≤ x → (false ≡ true) ↔ Suits code L x
-fit-out code L x h = (λ e. true-false (sym e), λ (l, f). absurd (omega arith))
-
 pub fit-any : (code : ℕ) (L : List ℕ) (x : ℕ) → x < length L → code ≡ 0 → (true ≡ true) ↔ Suits code L x
 fit-any code L x l e = (λ _. (l, rw e tt), λ _. refl)
 
@@ -37,58 +32,53 @@ fit-code (suc a) L x l ne =
     rw z (λ e. (l, eqb-true a (getD L x 0) e), λ (_, f). eq-eqb a (getD L x 0) f)
 
 -- ------------------------------------------------------------------ eight nodes
--- the bits of b up to k are those of the nodes from `from` on
-pub record ByteTo (code : ℕ) (L : List ℕ) (from k b : ℕ) : Type 0 where
-  pub low : (j : ℕ) → j < k → (bitOf b j ≡ true) ↔ Suits code L (from + j)
-  pub high : (j : ℕ) → k ≤ j → bitOf b j ≡ false
+pub byte-any : (code : ℕ) (L : List ℕ) (from : ℕ) → from + 8 ≤ length L → code ≡ 0 → (k : ℕ) → k < 8 → (bitOf 255 k ≡ true) ↔ Suits code L (from + k)
+byte-any code L from l e k lk = iff-same (all-bits k lk) (fit-any code L (from + k) (omega arith) e)
 
-pub byte-none : (code : ℕ) (L : List ℕ) (from : ℕ) → ByteTo code L from 0 0
-byte-none code L from = record { low = λ j l. absurd (omega arith); high = λ j l. zero-bit j }
-
-pub byte-more : (code : ℕ) (L : List ℕ) (from k b : ℕ) (f : Bool) (r : ℕ) → ByteTo code L from k b → (f ≡ true) ↔ Suits code L (from + k) → BitPut b k f r
-    → ByteTo code L from (k + 1) r
-byte-more code L from k b f r t s p =
-    record { low = λ j l. go j l (ℕ-discrete j k); high = λ j l. p .other j (λ e. omega arith) ∙ t .high j (omega arith) }
+pub byte-code : (code : ℕ) (L : List ℕ) (from r : ℕ) → from + 8 ≤ length L → (code ≡ 0 → ⊥) → Packed (λ k. eqb (getD L (from + k) 0) (code - 1)) 8 r
+    → (k : ℕ) → k < 8 → (bitOf r k ≡ true) ↔ Suits code L (from + k)
+byte-code code L from r l ne p k lk = iff-same (p .low k lk ∙ swap (getD L (from + k) 0) (code - 1)) (fit-code code L (from + k) (omega arith) ne)
   where
-    or-false : (x y : Bool) → y ≡ false → (x || y) ≡ x
-    or-false true y e = refl
-    or-false false y e = e
-
-    go : (j : ℕ) → j < k + 1 → Dec (j ≡ k) → (bitOf r j ≡ true) ↔ Suits code L (from + j)
-    go j l (yes e) = rw e (iff-same (p .here ∙ or-false f (bitOf b k) (t .high k (omega arith))) s)
-    go j l (no e) = iff-same (p .other j e) (t .low j (omega arith))
+    swap : (a b : ℕ) → eqb a b ≡ eqb b a
+    swap a b = go (ℕ-discrete a b)
+      where
+        go : Dec (a ≡ b) → eqb a b ≡ eqb b a
+        go (yes e) = rw e
+        go (no e) = ne-eqb a b e ∙ sym (ne-eqb b a (λ z. e (sym z)))
 
 -- ------------------------------------------------------------------ the row
--- row u has its first i bytes
-pub record RowTo (w : List ℕ) (u code : ℕ) (L : List ℕ) (i : ℕ) (b : List ℕ) : Type 0 where
-  pub only : OnlyRow w u b
-  pub low : (v : ℕ) → v < 8 * i → (bitAt b u v ≡ true) ↔ Suits code L v
-  pub high : (v : ℕ) → 8 * i ≤ v → v < 1024 → bitAt b u v ≡ false
+pub row-none : (w : List ℕ) (u : ℕ) (P : ℕ → Type 0) → RowClear w u → RowUpTo w u P 0
+row-none w u P h = record { low = λ v l. absurd (omega arith); high = λ v l m. h v m }
 
-pub row-none : (w : List ℕ) (u code : ℕ) (L : List ℕ) → RowClear w u → RowTo w u code L 0 w
-row-none w u code L h = record { only = only-refl w u; low = λ v l. absurd (omega arith); high = λ v l m. h v m }
-
-pub row-more : (w : List ℕ) (u code : ℕ) (L : List ℕ) (i : ℕ) (b : List ℕ) (o : ℕ) → i < 128 → 128 * u + 128 ≤ length w
-    → ((k : ℕ) → k < 8 → (bitOf o k ≡ true) ↔ Suits code L (8 * i + k)) → RowTo w u code L i b → RowTo w u code L (i + 1) (set b (128 * u + i) o)
-row-more w u code L i b o li lw f t = go (rw (t .only .same) lw)
+pub row-byte : (u : ℕ) (P : ℕ → Type 0) (i : ℕ) (b : List ℕ) (o : ℕ) → i < 128 → 128 * u + 128 ≤ length b → ((k : ℕ) → k < 8 → (bitOf o k ≡ true) ↔ P (8 * i + k))
+    → RowUpTo b u P (8 * i) → RowUpTo (set b (128 * u + i) o) u P (8 * (i + 1))
+row-byte u P i b o li lb f t =
+    record { low = λ v l. low v l (ℕ-discrete (v / 8) i); high = λ v l m. store-other b u i o li lb v (λ e. omega arith) ∙ t .high v (omega arith) m }
   where
-    go : 128 * u + 128 ≤ length b → RowTo w u code L (i + 1) (set b (128 * u + i) o)
-    go lb =
-        record {
-          only = only-then w b (set b (128 * u + i) o) u (t .only) (store-only b u i o li lb);
-          low = λ v l. low v l (ℕ-discrete (v / 8) i);
-          high = λ v l m. store-other b u i o li lb v (λ e. omega arith) ∙ t .high v (omega arith) m;
-        }
-      where
-        low : (v : ℕ) → v < 8 * (i + 1) → Dec (v / 8 ≡ i) → (bitAt (set b (128 * u + i) o) u v ≡ true) ↔ Suits code L v
-        low v l (yes e) =
-            let z : 8 * i + v % 8 ≡ v = omega arith in
-            iff-same (store-here b u i o li lb v e) (rw z at (f (v % 8) (omega arith)))
-        low v l (no e) = iff-same (store-other b u i o li lb v e) (t .low v (omega arith))
+    low : (v : ℕ) → v < 8 * (i + 1) → Dec (v / 8 ≡ i) → (bitAt (set b (128 * u + i) o) u v ≡ true) ↔ P v
+    low v l (yes e) =
+        let z : 8 * i + v % 8 ≡ v = omega arith in
+        iff-same (store-here b u i o li lb v e) (rw z at (f (v % 8) (omega arith)))
+    low v l (no e) = iff-same (store-other b u i o li lb v e) (t .low v (omega arith))
 
-pub row-all : (w : List ℕ) (u code : ℕ) (L : List ℕ) (i : ℕ) (b : List ℕ) → (length L + 7) / 8 ≤ i → i ≤ 128 → RowTo w u code L i b → RowIs w u (Suits code L) b
-row-all w u code L i b l m t = record { only = t .only; bits = λ v lv. go v lv (decLt v (8 * i)) }
+pub row-node-on : (w : List ℕ) (u : ℕ) (P : ℕ → Type 0) (v : ℕ) (b : List ℕ) → v < 1024 → P v → BitSet w u v b → RowUpTo w u P v → RowUpTo b u P (v + 1)
+row-node-on w u P v b lv p s t =
+    record { low = λ x l. low x l (ℕ-discrete x v); high = λ x l m. s .other x m (λ e. omega arith) ∙ t .high x (omega arith) m }
   where
-    go : (v : ℕ) → v < 1024 → Dec (v < 8 * i) → (bitAt b u v ≡ true) ↔ Suits code L v
+    low : (x : ℕ) → x < v + 1 → Dec (x ≡ v) → (bitAt b u x ≡ true) ↔ P x
+    low x l (yes e) = rw e (λ _. p, λ _. s .here)
+    low x l (no e) = iff-same (s .other x (omega arith) e) (t .low x (omega arith))
+
+pub row-node-off : (w : List ℕ) (u : ℕ) (P : ℕ → Type 0) (v : ℕ) → v < 1024 → (P v → ⊥) → RowUpTo w u P v → RowUpTo w u P (v + 1)
+row-node-off w u P v lv p t = record { low = λ x l. low x l (ℕ-discrete x v); high = λ x l m. t .high x (omega arith) m }
+  where
+    low : (x : ℕ) → x < v + 1 → Dec (x ≡ v) → (bitAt w u x ≡ true) ↔ P x
+    low x l (yes e) = rw e (λ b. true-false (sym b ∙ t .high v (omega arith) lv), λ y. absurd (p y))
+    low x l (no e) = t .low x (omega arith)
+
+pub row-all : (w : List ℕ) (u code : ℕ) (L : List ℕ) (e : ℕ) (b : List ℕ) → length L ≤ e → OnlyRow w u b → RowUpTo b u (Suits code L) e → RowIs w u (Suits code L) b
+row-all w u code L e b l o t = record { only = o; bits = λ v lv. go v lv (decLt v e) }
+  where
+    go : (v : ℕ) → v < 1024 → Dec (v < e) → (bitAt b u v ≡ true) ↔ Suits code L v
     go v lv (yes d) = t .low v d
-    go v lv (no d) = (λ e. true-false (sym e ∙ t .high v (omega arith) lv), λ (s, _). absurd (omega arith))
+    go v lv (no d) = (λ x. true-false (sym x ∙ t .high v (omega arith) lv), λ (s, _). absurd (omega arith))

@@ -1,11 +1,11 @@
 -- A pair is selected exactly if the ways from s and from d up to the top can be laid at once, s on m and d on n: a laying of the tree lays its
 -- ways, and along laid ways the bits speak of all that lies beside them.
-use mathlib.Core.Path.{_≡_, refl, sym, ap, subst, _∙_}
+use mathlib.Core.Path.{_≡_, refl, sym, ap, _∙_}
 use mathlib.Core.Logic.{_↔_, _⊎_, inl, inr}
 use mathlib.Core.Option.{Option, none, some}
 use mathlib.Core.List.{List}
 use mathlib.Core.Bool.{Bool, true, false, cond, _||_}
-use Prim.Native.Nat.{ℕ, zero, suc, _+_, _≤_, _<_}
+use Prim.Native.Nat.{ℕ, suc, _+_, _≤_, _<_}
 use native.Mathlib.Omega.{arith}
 use native.Mathlib.Decide.{ℕ-discrete, decLt}
 use lib.ListN.{length, getD}
@@ -17,7 +17,7 @@ use Rattle.meaning.specs.Normal.{holds, inTree, eitherIn}
 use Rattle.meaning.specs.Matching.{docOf, bitAt, OnLabel, LaysAt}
 use Rattle.theory.proofs.Pair.{OnlyIf, Ways, lays-ways}
 use Rattle.rows.specs.Rows.{tagAt, below, shape, mapT, treeRows, Holds, Hung, noRow, Rows}
-use Rattle.rows.proofs.Rows.{size-holds, holds-first, row-opens, row-up, Top, rows-top}
+use Rattle.rows.proofs.Rows.{size-holds, holds-first, row-up, Top, rows-top}
 use Rattle.matching.specs.Pair.{Single, Asked, Placed, WayLaid, TwoWays}
 use Rattle.matching.proofs.Tables.{Good, good-table, in-doc, child-doc}
 use Rattle.matching.proofs.Labels.{true-false}
@@ -59,9 +59,9 @@ holds-row p tag span u e (tree i k r) h t =
     go false true a b s f g z = let (j, l, m, q) = f b in (j, omega (arith, h .0), omega arith, q)
     go false false a b s f g z = let (j, l, m, q) = g s in (j, omega (arith, h .0), m, q)
 
-in-row : (p : Tag → Bool) (tag : ℕ → Tag) (span : List ℕ) (i e : ℕ) (k : Forest ℕ) → 1 ≤ getD span i 0 → Holds span (suc i) e k → inTree p (tag i) (mapT tag k) ≡ true
+in-row : (p : Tag → Bool) (tag : ℕ → Tag) (span : List ℕ) (i e : ℕ) (k : Forest ℕ) → Holds span (suc i) e k → inTree p (tag i) (mapT tag k) ≡ true
     → (j : ℕ) × (i ≤ j) × (j < e) × (p (tag j) ≡ true)
-in-row p tag span i e k z h t = go (p (tag i)) refl t
+in-row p tag span i e k h t = go (p (tag i)) refl t
   where
     go : (b : Bool) → p (tag i) ≡ b → (b || holds p (mapT tag k)) ≡ true → (j : ℕ) × (i ≤ j) × (j < e) × (p (tag j) ≡ true)
     go true y s = let l = size-holds span (suc i) e k h in (i, omega arith, omega arith, y)
@@ -81,7 +81,7 @@ module _ (w mark up P : List ℕ) (q : Asked w mark up P) (m n : ℕ) where
   R = q .tree
 
   -- what a bit says
-  pub bit-lays : (u x : ℕ) → u < (q .rows) → x < length P → (bitAt w u x ≡ true) ↔ LaysAt D (tag u) (mapT tag (below (q .span) u)) x
+  pub bit-lays : (u x : ℕ) → u < q .rows → x < length P → (bitAt w u x ≡ true) ↔ LaysAt D (tag u) (mapT tag (below (q .span) u)) x
   bit-lays u x l lx =
       let few = R .few in
       let gew = G .few in
@@ -130,7 +130,7 @@ module _ (w mark up P : List ℕ) (q : Asked w mark up P) (m n : ℕ) where
               far (inl (a, un)) = inl (a, rw (br j (omega arith)) un)
               far (inr (a, a′, ch)) = inr (omega (arith, h .0), a′, rw (br (getD up j 0) a, br j (omega arith)) ch)
 
-  spread-way : (h : ℕ → ℕ) → ((i : ℕ) → 0 ≤ i → i < (q .rows) → Suited i (h i) × Joined noRow 0 none h i) → (u : ℕ) → u < (q .rows) → WayLaid w up P (q .span) h u
+  spread-way : (h : ℕ → ℕ) → ((i : ℕ) → 0 ≤ i → i < q .rows → Suited i (h i) × Joined noRow 0 none h i) → (u : ℕ) → u < q .rows → WayLaid w up P (q .span) h u
   spread-way h f u l c a b =
       let s = f c (omega arith) (omega arith) in
       let i = in-doc P (q .labels) G (h c) .0 (s .0 .2 .0) in
@@ -140,7 +140,7 @@ module _ (w mark up P : List ℕ) (q : Asked w mark up P) (m n : ℕ) where
       edge (inl (e, _)) y = let few = R .few in absurd (omega arith)
       edge (inr (_, _, ch)) y = let d = child-doc P (q .labels) G (h (getD up c 0)) (h c) .0 ch in (d .0, d .2)
 
-  rows-some : 0 < (q .rows)
+  rows-some : 0 < q .rows
   rows-some = let l = q .s .inside in omega arith
 
   top : Top (q .code) mark (q .kids) (q .span) up (q .rows) R
@@ -151,7 +151,7 @@ module _ (w mark up P : List ℕ) (q : Asked w mark up P) (m n : ℕ) where
   unfolding treeRows
   takes-ways t = go (spread noRow 0 (q .rows) (shape (q .span) (q .rows)) none (R .laid) (R .hung) (rw (top .tree-is) (rw (top .tree-is) at t)))
     where
-      go : (h : ℕ → ℕ) × ((i : ℕ) → 0 ≤ i → i < (q .rows) → Suited i (h i) × Joined noRow 0 none h i) → TwoWays w up P (q .span) (q .s .row) m (q .d .row) n
+      go : (h : ℕ → ℕ) × ((i : ℕ) → 0 ≤ i → i < q .rows → Suited i (h i) × Joined noRow 0 none h i) → TwoWays w up P (q .span) (q .s .row) m (q .d .row) n
       go (h, f) = (
         h,
         mark-on (tag (q .s .row) .src) (h (q .s .row)) m (q .s .here) (f (q .s .row) (omega arith) (q .s .inside) .0 .0),
@@ -163,13 +163,13 @@ module _ (w mark up P : List ℕ) (q : Asked w mark up P) (m n : ℕ) where
   -- ---------------------------------------------------------------- along laid ways the bits speak of the rest
   module _ (h : ℕ → ℕ) (hs : h (q .s .row) ≡ m) (hd : h (q .d .row) ≡ n) (ws : WayLaid w up P (q .span) h (q .s .row)) (wd : WayLaid w up P (q .span) h (q .d .row)) where
     -- a row with s or d in its part is on a way
-    on-way : (i : ℕ) (k : Forest ℕ) → i + getD (q .span) i 0 ≤ (q .rows) → 1 ≤ getD (q .span) i 0 → Holds (q .span) (suc i) (i + getD (q .span) i 0) k
+    on-way : (i : ℕ) (k : Forest ℕ) → i + getD (q .span) i 0 ≤ q .rows → Holds (q .span) (suc i) (i + getD (q .span) i 0) k
         → eitherIn (tag i) (mapT tag k) ≡ true → Placed w up P h i
-    on-way i k l z hk t = go (inTree (λ a. a .src) (tag i) (mapT tag k)) refl t
+    on-way i k l hk t = go (inTree (λ a. a .src) (tag i) (mapT tag k)) refl t
       where
         part : (p : Tag → Bool) → inTree p (tag i) (mapT tag k) ≡ true → (S : Single (λ u. p (tag u)) (q .rows)) → WayLaid w up P (q .span) h (S .row) → Placed w up P h i
         part p e S f =
-            let (j, a, b, y) = in-row p tag (q .span) i (i + getD (q .span) i 0) k z hk e in
+            let (j, a, b, y) = in-row p tag (q .span) i (i + getD (q .span) i 0) k hk e in
             let r : j ≡ S .row = S .only j (omega arith) y in
             f i (omega arith) (omega arith)
 
@@ -177,14 +177,14 @@ module _ (w mark up P : List ℕ) (q : Asked w mark up P) (m n : ℕ) where
         go true e y = part (λ a. a .src) e (q .s) ws
         go false e y = part (λ a. a .dst) y (q .d) wd
 
-    mark-lies : (p : ℕ → Bool) (S : Single p (q .rows)) (x : ℕ) → h (S .row) ≡ x → (i : ℕ) → i < (q .rows) → MarkOn (p i) (h i) x
+    mark-lies : (p : ℕ → Bool) (S : Single p (q .rows)) (x : ℕ) → h (S .row) ≡ x → (i : ℕ) → i < q .rows → MarkOn (p i) (h i) x
     mark-lies p S x e i l = go (p i) refl
       where
         go : (b : Bool) → p i ≡ b → MarkOn b (h i) x
         go true y = let z = S .only i l y in rw z e
         go false y = tt
 
-    gather : (p c e : ℕ) (F : Forest ℕ) (v : Option ℕ) → Holds (q .span) c e F → Hung up p F → e ≤ (q .rows)
+    gather : (p c e : ℕ) (F : Forest ℕ) (v : Option ℕ) → Holds (q .span) c e F → Hung up p F → e ≤ q .rows
         → ((i : ℕ) → getD up i 0 ≡ p → c ≤ i → i < e → Placed w up P h i → Under D v (h i)) → Ways D m n (mapT tag F) v
     unfolding mapT
     gather p c e bare v held hung le under = tt
@@ -202,7 +202,7 @@ module _ (w mark up P : List ℕ) (q : Asked w mark up P) (m n : ℕ) where
         only false t l ways = tt
         only true t l ways =
             let z : i + getD (q .span) i 0 ≡ suc i + size k = omega (arith, held .1) in
-            let pl = on-way i k (omega (arith, le)) (omega (arith, held .1)) (rw z (held .2)) t in
+            let pl = on-way i k (omega (arith, le)) (rw z (held .2)) t in
             let y = bit-lays i (h i) (omega arith) (pl .inside) .0 (pl .bit) in
             let o : below (q .span) i ≡ k = rw (← held .0) (holds-first (q .span) c e i k r held .0) in (
               h i,

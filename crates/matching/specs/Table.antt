@@ -3,8 +3,8 @@
 use mathlib.Core.Path.{_≡_}
 use mathlib.Core.Logic.{_↔_, _⊎_}
 use mathlib.Core.List.{List, []}
-use mathlib.Core.Bool.{Bool, true, false}
-use Prim.Native.Nat.{ℕ, _+_, _*_, _≤_, _<_}
+use mathlib.Core.Bool.{true, false}
+use Prim.Native.Nat.{ℕ, _+_, _≤_, _<_}
 use lib.ListN.{length, getD}
 use Rattle.meaning.specs.TreeQuery.{Fits}
 use Rattle.meaning.specs.Matching.{goodTable, docOf, bitAt, LaysAt, tableBytes}
@@ -30,10 +30,15 @@ FromByte parents b x v = (k : ℕ) × (bitOf b k ≡ true) × (getD parents (x +
 abbrev pub ParentOf : List ℕ → ℕ → List ℕ → ℕ → ℕ → Type 0
 ParentOf w c parents e v = (x : ℕ) × (0 < x) × (x < e) × (bitAt w c x ≡ true) × (getD parents x 0 ≡ v)
 
--- the row `after` is `before` with the nodes added that are so
+-- the flags `after` are `before` with the nodes added that are so
 pub record Added (before : List ℕ) (P : ℕ → Type 0) (after : List ℕ) : Type 0 where
   pub same : length after ≡ length before
-  pub bits : (v : ℕ) → v < 1024 → (bitAt after 0 v ≡ true) ↔ ((bitAt before 0 v ≡ true) ⊎ P v)
+  pub flags : (v : ℕ) → v < 1024 → (getD after v 0 ≡ 1) ↔ ((getD before v 0 ≡ 1) ⊎ P v)
+
+-- the nodes of row u below e are those that are so, and it has no others
+pub record RowUpTo (w : List ℕ) (u : ℕ) (P : ℕ → Type 0) (e : ℕ) : Type 0 where
+  pub low : (v : ℕ) → v < e → (bitAt w u v ≡ true) ↔ P v
+  pub high : (v : ℕ) → e ≤ v → v < 1024 → bitAt w u v ≡ false
 
 -- the nodes of row u are those that are so
 pub record RowIs (before : List ℕ) (u : ℕ) (P : ℕ → Type 0) (after : List ℕ) : Type 0 where

@@ -5,13 +5,13 @@ ghost use mathlib.Core.List.{List};
 ghost use mathlib.Core.Bool.{true, _&&_};
 ghost use Prim.Native.Nat.{ℕ, _+_, _*_, _≤_, _<_};
 ghost use lib.ListN.{length, getD};
-ghost use lib.Dec.{leb};
+ghost use lib.Dec.{leb, eqb};
 ghost use Rattle.meaning.specs.Number.{largestLabel};
 ghost use Rattle.meaning.specs.Tree.{Takes};
 ghost use Rattle.meaning.specs.Matching.{parentOk, goodTable, docOf, bitAt, MatchTable, tableBytes};
-ghost use Rattle.bits.specs.Bits.{bitOf};
+ghost use Rattle.bits.specs.Bits.{bitOf, Packed, OnlyRow};
 ghost use Rattle.rows.specs.Rows.{treeRows};
-ghost use Rattle.matching.specs.Table.{Suits, Parents, FromByte, ParentOf, Added, RowIs, RowClear, Query, Lies, Ready};
+ghost use Rattle.matching.specs.Table.{Suits, Parents, FromByte, ParentOf, Added, RowUpTo, RowIs, RowClear, Query, Lies, Ready};
 ghost use Rattle.matching.specs.Pair.{Bears, FirstRow, Asked, OneWay};
 
 // Whether node x may have this parent number and this label.
@@ -51,63 +51,95 @@ pub fn good_table(parents: &[u32], labels: &[u32]) -> bool
     true
 }
 
-// Whether there is a node x, and its label fits a label code ("0 wildcard, else L+1").
+// Whether the label of node x fits a label code ("0 wildcard, else L+1").
 fn fits_at(code: u32, labels: &[u32], x: usize) -> bool
+    requires { ⌜ x < length (now labels) ⌝ }
     ensures { λ r. ⌜ (r ≡ true) ↔ Suits code (now (labels .entry)) x ⌝ }
 {
-    if labels.len() <= x {
-        return false;
-    }
     if code == 0 {
         return true;
     }
     code - 1 == labels[x]
 }
 
-// The nodes from `from` on that a label code fits, eight to a byte.
-fn label_byte(code: u32, labels: &[u32], from: usize) -> u8
-    requires { ⌜ from < 1024 ⌝ }
-    ensures { λ r. ⌜ ((k : ℕ) → k < 8 → (bitOf r k ≡ true) ↔ Suits code (now (labels .entry)) (from + k)) ⌝ }
+// Which of eight nodes bear a label, as the bits of a byte.
+fn same_byte(label: u32, labels: &[u32], from: usize) -> u8
+    requires { ⌜ (from < 1024) × (from + 8 ≤ length (now labels)) ⌝ }
+    ensures { λ r. ⌜ Packed (λ k. eqb (getD (now (labels .entry)) (from + k) 0) label) 8 r ⌝ }
 {
     let mut b: u8 = 0;
     let mut k: usize = 0;
     while k < 8 {
-        let fits = fits_at(code, labels, from + k);
-        b = bits::with_bit(b, k, fits);
+        b = bits::with_bit(b, k, labels[from + k] == label);
         k += 1;
     }
     b
 }
 
-// Fills the clear row u with the nodes that a label code fits.
+// Which of eight nodes a label code fits, as the bits of a byte.
+fn label_byte(code: u32, labels: &[u32], from: usize) -> u8
+    requires { ⌜ (from < 1024) × (from + 8 ≤ length (now labels)) ⌝ }
+    ensures { λ r. ⌜ ((k : ℕ) → k < 8 → (bitOf r k ≡ true) ↔ Suits code (now (labels .entry)) (from + k)) ⌝ }
+{
+    if code == 0 {
+        return 255;
+    }
+    same_byte(code - 1, labels, from)
+}
+
+// Sets bit v of row u if a label code fits node v.
+fn label_node(w: &mut [u8], u: usize, code: u32, labels: &[u32], v: usize)
+    requires { ⌜ (u < 256) × (v < 1024) × (128 * u + 128 ≤ length (now w)) × (v < length (now labels)) × RowUpTo (now w) u (Suits code (now labels)) v ⌝ }
+    ensures { λ _. ⌜ OnlyRow (now (w .entry)) u (now (w .exit)) × RowUpTo (now (w .exit)) u (Suits code (now (labels .entry))) (v + 1) ⌝ }
+{
+    if fits_at(code, labels, v) {
+        bits::set_bit(w, u, v);
+        return;
+    }
+}
+
+// The last nodes of row u, those that do not fill a byte, one by one.
+fn label_rest(w: &mut [u8], u: usize, code: u32, labels: &[u32], from: usize)
+    requires { ⌜ (u < 256) × (128 * u + 128 ≤ length (now w)) × (length (now labels) ≤ 1024) × (from ≤ length (now labels)) × RowUpTo (now w) u (Suits code (now labels)) from ⌝ }
+    ensures { λ _. ⌜ RowIs (now (w .entry)) u (Suits code (now (labels .entry))) (now (w .exit)) ⌝ }
+{
+    let mut v = from;
+    while v < labels.len() {
+        label_node(w, u, code, labels, v);
+        v += 1;
+    }
+}
+
+// Fills the clear row u with the nodes that a label code fits: eight at a time, then the rest.
 fn label_row(w: &mut [u8], u: usize, code: u32, labels: &[u32])
     requires { ⌜ (u < 256) × (128 * u + 128 ≤ length (now w)) × (length (now labels) ≤ 1024) × RowClear (now w) u ⌝ }
     ensures { λ _. ⌜ RowIs (now (w .entry)) u (Suits code (now (labels .entry))) (now (w .exit)) ⌝ }
 {
     let at = 128 * u;
-    let bytes = (labels.len() + 7) / 8;
+    let bytes = labels.len() / 8;
     let mut i: usize = 0;
     while i < bytes {
         w[at + i] = label_byte(code, labels, 8 * i);
         i += 1;
     }
+    label_rest(w, u, code, labels, 8 * bytes);
 }
 
-// Adds the parent of node x, if the lowest bit of b is set.
+// Flags the parent of node x, if the lowest bit of b is set.
 fn mark_parent(b: u8, x: usize, parents: &[u32], has: &mut [u8])
-    requires { ⌜ Parents (now parents) × (128 ≤ length (now has)) × (bitOf b 0 ≡ true → x < length (now parents)) ⌝ }
+    requires { ⌜ Parents (now parents) × (1024 ≤ length (now has)) × (bitOf b 0 ≡ true → x < length (now parents)) ⌝ }
     ensures { λ _. ⌜ Added (now (has .entry)) (λ v. (bitOf b 0 ≡ true) × (getD (now (parents .entry)) x 0 ≡ v)) (now (has .exit)) ⌝ }
 {
     if b & 1 == 1 {
         let p = parent_at(parents, x);
-        bits::set_bit(has, 0, p);
+        has[p] = 1;
         return;
     }
 }
 
-// Adds the parents of the nodes whose bits are set in a byte, node `first` being its lowest bit. It ends with the highest set bit.
+// Flags the parents of the nodes whose bits are set in a byte, node `first` being its lowest bit. It ends with the highest set bit.
 fn mark_parents(byte: u8, first: usize, parents: &[u32], has: &mut [u8])
-    requires { ⌜ Parents (now parents) × (128 ≤ length (now has)) × (first ≤ 1024) × ((k : ℕ) → bitOf byte k ≡ true → first + k < length (now parents)) ⌝ }
+    requires { ⌜ Parents (now parents) × (1024 ≤ length (now has)) × (first ≤ 1024) × ((k : ℕ) → bitOf byte k ≡ true → first + k < length (now parents)) ⌝ }
     ensures { λ _. ⌜ Added (now (has .entry)) (FromByte (now (parents .entry)) byte first) (now (has .exit)) ⌝ }
 {
     let mut b = byte;
@@ -119,9 +151,9 @@ fn mark_parents(byte: u8, first: usize, parents: &[u32], has: &mut [u8])
     }
 }
 
-// Adds the parents of the nodes in row c. Node 0, the root, has none: the first byte is read without its lowest bit.
+// Flags the parents of the nodes in row c. Node 0, the root, has none: the first byte is read without its lowest bit.
 fn mark_row(w: &[u8], c: usize, parents: &[u32], has: &mut [u8])
-    requires { ⌜ Parents (now parents) × (128 ≤ length (now has)) × (c < 256) × (128 * c + 128 ≤ length (now w)) × ((x : ℕ) → x < 1024 → bitAt (now w) c x ≡ true → x < length (now parents)) ⌝ }
+    requires { ⌜ Parents (now parents) × (1024 ≤ length (now has)) × (c < 256) × (128 * c + 128 ≤ length (now w)) × ((x : ℕ) → x < 1024 → bitAt (now w) c x ≡ true → x < length (now parents)) ⌝ }
     ensures { λ _. ⌜ Added (now (has .entry)) (ParentOf (now (w .entry)) c (now (parents .entry)) (length (now (parents .entry)))) (now (has .exit)) ⌝ }
 {
     let at = 128 * c;
@@ -135,14 +167,14 @@ fn mark_row(w: &[u8], c: usize, parents: &[u32], has: &mut [u8])
     }
 }
 
-// Keeps of row u the nodes that have a child in row c.
+// Keeps of row u the nodes that have a child in row c. Parents are flagged by bytes: brothers would wait for each other to set bits of one byte.
 fn keep_parents(w: &mut [u8], u: usize, c: usize, parents: &[u32])
-    requires { ⌜ Parents (now parents) × (u < 256) × (c < 256) × (tableBytes ≤ length (now w)) × ((x : ℕ) → x < 1024 → bitAt (now w) c x ≡ true → x < length (now parents)) ⌝ }
+    requires { ⌜ Parents (now parents) × (u < 256) × (c < 256) × (tableBytes ≤ length (now w)) × ((x : ℕ) → x < 1024 → bitAt (now w) c x ≡ true → x < length (now parents)) × ((x : ℕ) → x < 1024 → bitAt (now w) u x ≡ true → x < length (now parents)) ⌝ }
     ensures { λ _. ⌜ RowIs (now (w .entry)) u (λ v. (bitAt (now (w .entry)) u v ≡ true) × ParentOf (now (w .entry)) c (now (parents .entry)) (length (now (parents .entry))) v) (now (w .exit)) ⌝ }
 {
-    let mut has = [0u8; 128];
+    let mut has = [0u8; 1024];
     mark_row(w, c, parents, &mut has);
-    bits::meet(w, u, &has);
+    bits::meet(w, u, &has, (parents.len() + 7) / 8);
 }
 
 // What stands at row u: its span, or its parent's row.

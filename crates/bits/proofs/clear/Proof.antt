@@ -1,3 +1,4 @@
+-- The first i bytes are clear, the later ones as they were.
 use borrow.Author.Needs.{needs}
 use mathlib.Core.Path.{_≡_}
 use Prim.Native.Nat.{_-_, _≤_}

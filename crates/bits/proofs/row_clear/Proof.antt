@@ -1,3 +1,4 @@
+-- The first i bytes of row u are 0, so they have no bits.
 use borrow.Author.Needs.{needs}
 use mathlib.Core.Path.{_≡_}
 use Prim.Native.Nat.{ℕ, _+_, _*_, _-_, _≤_, _<_}

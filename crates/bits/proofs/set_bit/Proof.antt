@@ -1,3 +1,4 @@
+-- One byte of row u changes, by one bit.
 use Rattle.bits.proofs.Bits.{bit-set}
 use borrow.Author.Needs.{needs}
 use Rattle.bits.proofs.set_bit.Statement.{statement}

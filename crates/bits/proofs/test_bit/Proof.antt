@@ -1,3 +1,4 @@
+-- A shift and a mask read the bit.
 use Rattle.meaning.specs.Matching.{bitAt}
 use Rattle.bits.proofs.Bits.{and-one}
 use borrow.Author.Needs.{needs}

@@ -1,3 +1,4 @@
+-- A shift and an or set the bit.
 use Rattle.bits.proofs.Bits.{put-on, put-off}
 use borrow.Author.Needs.{needs}
 use Rattle.bits.proofs.with_bit.Statement.{statement}

@@ -1,10 +1,10 @@
-use mathlib.Core.Path.{_≡_, sym, _∙_}
+-- The root has no parent; else the bit decides.
+use mathlib.Core.Path.{sym, _∙_}
 use native.Mathlib.Omega.{arith}
 use Rattle.matching.proofs.Labels.{true-false}
 use borrow.Author.Needs.{needs}
 use Rattle.matching.proofs.can_climb.Statement.{statement}
 use Rattle.matching.proofs.can_climb.Tie as tie
-use Rattle.bits.proofs.test_bit.Reads as test-bit-reads
 
 returns : tie.Need-returns
 returns c = (λ e. true-false (sym e), λ (l, b). absurd (omega arith))

@@ -1,6 +1,6 @@
-use borrow.Author.Needs.{needs}
-use mathlib.Core.Path.{_≡_, sym, _∙_}
-use Prim.Native.Nat.{ℕ, _<_}
+-- The way from u on x can be laid exactly if the way from c on y can.
+use mathlib.Core.Path.{sym, _∙_}
+use Prim.Native.Nat.{_<_}
 use native.Mathlib.Omega.{arith}
 use lib.ListN.{length}
 use borrow.Author.Tests.{not-true, not-false}
@@ -8,10 +8,6 @@ use Rattle.matching.proofs.Labels.{true-false, iff-same}
 use Rattle.matching.proofs.Pair.{bounds, up-less, parent-node, Climbed, climbed-more, climbed-not, climbed-all}
 use Rattle.matching.proofs.climbs.Statement.{statement}
 use Rattle.matching.proofs.climbs.Tie as tie
-use Rattle.bits.proofs.test_bit.Reads as test-bit-reads
-use Rattle.matching.proofs.can_climb.Reads as can-climb-reads
-use Rattle.matching.proofs.link_at.Reads as link-at-reads
-use Rattle.matching.proofs.parent_at.Reads as parent-at-reads
 
 abbrev Inv-loop : tie.InvT-loop
 Inv-loop w up parents u x c₀ y₀ c y = (y < length parents) × Climbed w up parents u x c y

@@ -1,4 +1,4 @@
-use borrow.Author.Needs.{needs}
+-- The label first, then the root, then the other nodes.
 use native.Mathlib.Omega.{arith}
 use Rattle.matching.proofs.Tables.{row-label, row-root, row-lower}
 use Rattle.matching.proofs.good_row.Statement.{statement}

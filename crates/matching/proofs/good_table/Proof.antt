@@ -1,13 +1,12 @@
+-- What is left to check from node x on decides, once the lengths are right.
 use borrow.Author.Needs.{needs}
 use Prim.Native.Nat.{_-_, _≤_}
 use native.Mathlib.Omega.{arith}
-use mathlib.Core.Path.{_≡_, sym, _∙_}
-use lib.ListN.{length}
+use mathlib.Core.Path.{sym, _∙_}
 use borrow.Author.Tests.{not-true, not-false}
 use Rattle.matching.proofs.Tables.{Checked, table-none, table-many, table-uneven, checked-none, checked-more, checked-bad, checked-all}
 use Rattle.matching.proofs.good_table.Statement.{statement}
 use Rattle.matching.proofs.good_table.Tie as tie
-use Rattle.matching.proofs.good_row.Reads as good-row-reads
 
 abbrev Inv-loop : tie.InvT-loop
 Inv-loop parents labels n x₀ x = (x ≤ n) × Checked parents labels x

@@ -1,53 +1,20 @@
+-- A wildcard fits all eight nodes.
+use Rattle.matching.proofs.Labels.{byte-any, byte-code}
 use borrow.Author.Needs.{needs}
-use Prim.Native.Nat.{_-_, _≤_}
-use native.Mathlib.Omega.{arith}
-use Rattle.matching.proofs.Labels.{ByteTo, byte-none, byte-more}
 use Rattle.matching.proofs.label_byte.Statement.{statement}
 use Rattle.matching.proofs.label_byte.Tie as tie
-use Rattle.bits.proofs.with_bit.Reads as with-bit-reads
-use Rattle.matching.proofs.fits_at.Reads as fits-at-reads
 
-abbrev Inv-loop : tie.InvT-loop
-Inv-loop code labels from b₀ k₀ b k = (k ≤ 8) × ByteTo code labels from k b
+returns : tie.Need-returns
+returns c = byte-any (c .before .before .args .code) (c .before .before .args .labels .now) (c .before .before .args .from) (c .before .before .pre .1) (c .if1 .taken)
 
-abbrev μ-loop : tie.MeasureT-loop
-μ-loop code labels from b₀ k₀ b k = 8 - k
+sub-same-byte : tie.Need-sub-same-byte
+sub-same-byte c = search needs
 
-loop-holds : tie.Need-loop-holds Inv-loop μ-loop
-loop-holds c = (omega arith, byte-none _ _ _)
+same-byte-requires : tie.Need-same-byte-requires
+same-byte-requires c κs = search needs
 
-add-fits-at : tie.Need-add-fits-at Inv-loop μ-loop
-add-fits-at c = search needs
-
-fits-at-requires : tie.Need-fits-at-requires Inv-loop μ-loop
-fits-at-requires c κs = search needs
-
-with-bit-requires : tie.Need-with-bit-requires Inv-loop μ-loop
-with-bit-requires c κs = search needs
-
-add-k : tie.Need-add-k Inv-loop μ-loop
-add-k c = search needs
-
-loop-less : tie.Need-loop-less Inv-loop μ-loop
-loop-less c = search needs
-
-loop-again : tie.Need-loop-again Inv-loop μ-loop
-loop-again c = (omega arith, byte-more _ _ _ _ _ _ _ (c .before .before .before .loop .inv .1) (c .before .fits-at .ensures) (c .with-bit .ensures))
-
-returns : tie.Need-returns Inv-loop μ-loop
-returns c = λ k l. c .before .loop .inv .1 .low k (omega arith)
+returns-2 : tie.Need-returns-2
+returns-2 c = byte-code (c .before .before .before .args .code) (c .before .before .before .args .labels .now) (c .before .before .before .args .from) _ (c .before .before .before .pre .1) (c .before .if1 .left) (c .same-byte .ensures)
 
 pub label-byte-spec : {M : Type 1} → statement M
-label-byte-spec =
-    tie.close
-    (tie.spec
-    Inv-loop
-    μ-loop
-    loop-holds
-    add-fits-at
-    fits-at-requires
-    with-bit-requires
-    add-k
-    loop-less
-    loop-again
-    returns)
+label-byte-spec = tie.close (tie.spec returns sub-same-byte same-byte-requires returns-2)

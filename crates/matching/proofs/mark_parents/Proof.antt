@@ -1,10 +1,9 @@
+-- What is flagged and what is left in b, from node x on, make up what the byte says.
 use borrow.Author.Needs.{needs}
-use Prim.Native.Nat.{_≤_}
 use native.Mathlib.Omega.{arith}
 use Rattle.matching.proofs.Kinship.{Adding, adding-none, adding-more, adding-all}
 use Rattle.matching.proofs.mark_parents.Statement.{statement}
 use Rattle.matching.proofs.mark_parents.Tie as tie
-use Rattle.matching.proofs.mark_parent.Reads as mark-parent-reads
 
 abbrev Inv-loop : tie.InvT-loop
 Inv-loop byte first parents has₀ b₀ x₀ has b x = Adding parents has₀ byte first has b x

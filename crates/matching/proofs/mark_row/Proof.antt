@@ -1,3 +1,4 @@
+-- The parents of the nodes below 8i are flagged.
 use borrow.Author.Needs.{needs}
 use mathlib.Core.Path.{_≡_, refl, _∙_}
 use mathlib.Core.List.{List}
@@ -8,7 +9,6 @@ use Rattle.matching.specs.Table.{ParentOf, Added}
 use Rattle.matching.proofs.Kinship.{byte-inside, first-inside, added-first, added-byte, added-row}
 use Rattle.matching.proofs.mark_row.Statement.{statement}
 use Rattle.matching.proofs.mark_row.Tie as tie
-use Rattle.matching.proofs.mark_parents.Reads as mark-parents-reads
 
 abbrev Inv-loop : tie.InvT-loop
 Inv-loop w c parents has₀ at bytes b i₀ has i = (1 ≤ i) × (i ≤ bytes) × (length has ≡ length has₀) × ((h : List ℕ) → Added h (ParentOf w c parents (8 * 1)) has₀ → Added h (ParentOf w c parents (8 * i)) has)

@@ -1,8 +1,10 @@
-use borrow.Author.Needs.{needs}
-use mathlib.Core.Path.{_≡_, sym, _∙_}
+-- What is left of row u, and the children from c on, say where u can be laid.
+use mathlib.Core.Path.{_≡_, _∙_}
 use Prim.Native.Nat.{ℕ, _+_, _-_, _≤_, _<_}
 use native.Mathlib.Omega.{arith}
+use mathlib.Core.Bool.{true}
 use lib.ListN.{length}
+use Rattle.meaning.specs.Matching.{bitAt}
 use Rattle.bits.specs.Bits.{OnlyRow}
 use Rattle.bits.proofs.Bits.{only-refl, only-then}
 use Rattle.rows.proofs.Rows.{row-opens}
@@ -11,13 +13,9 @@ use Rattle.matching.proofs.Tables.{good-table, good-parents}
 use Rattle.matching.proofs.Filling.{Partly, partly-next, partly-start, partly-turn, partly-all, partly-clear, rows-kept, rows-inside}
 use Rattle.matching.proofs.match_row.Statement.{statement}
 use Rattle.matching.proofs.match_row.Tie as tie
-use Rattle.bits.proofs.row_clear.Reads as row-clear-reads
-use Rattle.matching.proofs.keep_parents.Reads as keep-parents-reads
-use Rattle.matching.proofs.label_row.Reads as label-row-reads
-use Rattle.matching.proofs.link_at.Reads as link-at-reads
 
 abbrev Inv-loop : tie.InvT-loop
-Inv-loop w₀ code span n u parents labels end c₀ w c = (u < c) × (end ≤ n) × OnlyRow w₀ u w × RowsFrom code span parents labels n (u + 1) w × Partly code span parents labels u c end w
+Inv-loop w₀ code span n u parents labels end c₀ w c = (u < c) × (end ≤ n) × OnlyRow w₀ u w × RowsFrom code span parents labels n (u + 1) w × Partly code span parents labels u c end w × ((x : ℕ) → x < 1024 → bitAt w u x ≡ true → x < length parents)
 
 abbrev μ-loop : tie.MeasureT-loop
 μ-loop w₀ code span n u parents labels end c₀ w c = end - c
@@ -50,6 +48,7 @@ loop-holds c =
       only-refl _ _,
       rows-kept (c .before .before .before .before .before .before .before .before .before .before .before .args .code .now) (c .before .before .before .before .before .before .before .before .before .before .before .args .span .now) _ _ (c .before .before .before .before .before .before .before .before .before .before .before .pre .table) _ _ _ _ (c .before .before .before .label-row .ensures .only) (c .before .before .before .before .before .before .before .before .before .before .before .pre .behind),
       rw (c .link-at .ensures) (partly-start _ _ _ _ (c .before .before .before .before .before .before .before .before .before .before .before .pre .table) _ _ (c .before .before .before .before .before .before .before .before .before .before .before .pre .query) (c .before .before .before .before .before .before .before .before .before .before .before .pre .row) _ _ (c .before .before .before .label-row .ensures)),
+      λ x l t. let G = good-table _ _ (c .before .before .before .before .before .before .before .before .before .before .before .pre .table) in let s = c .before .before .before .label-row .ensures .bits x l .0 t in omega (arith, s .0, G .labels),
     )
 
 row-clear-requires : tie.Need-row-clear-requires Inv-loop μ-loop
@@ -69,6 +68,7 @@ keep-parents-requires c κs =
       omega (arith, c .before .before .before .before .before .before .before .before .before .before .before .before .before .before .before .before .before .pre .query .few, c .before .before .before .before .before .loop .inv .1, c .before .before .before .before .loop-test .taken),
       omega (arith, c .before .before .before .before .before .before .before .before .before .before .before .before .before .before .before .before .before .pre .room, c .before .before .before .before .before .before .before .before .before .label-row .ensures .only .same, c .before .before .before .before .before .loop .inv .2 .same),
       rows-inside (c .before .before .before .before .before .before .before .before .before .before .before .before .before .before .before .before .before .args .code .now) (c .before .before .before .before .before .before .before .before .before .before .before .before .before .before .before .before .before .args .span .now) _ _ (c .before .before .before .before .before .before .before .before .before .before .before .before .before .before .before .before .before .pre .table) _ _ _ (c .before .before .before .before .before .loop .inv .3) (c .before .before .before .before .before .loop .c) (omega (arith, c .before .before .before .before .before .loop .inv .0)) (omega (arith, c .before .before .before .before .before .loop .inv .1, c .before .before .before .before .loop-test .taken)),
+      c .before .before .before .before .before .loop .inv .5,
     )
 
 link-at-requires-2 : tie.Need-link-at-requires-2 Inv-loop μ-loop
@@ -88,6 +88,7 @@ loop-again c =
       only-then _ _ _ _ (c .before .before .before .before .before .before .before .before .before .loop .inv .2) (c .before .before .before .keep-parents .ensures .only),
       rows-kept (c .before .before .before .before .before .before .before .before .before .before .before .before .before .before .before .before .before .before .before .before .before .args .code .now) (c .before .before .before .before .before .before .before .before .before .before .before .before .before .before .before .before .before .before .before .before .before .args .span .now) _ _ (c .before .before .before .before .before .before .before .before .before .before .before .before .before .before .before .before .before .before .before .before .before .pre .table) _ _ _ _ (c .before .before .before .keep-parents .ensures .only) (c .before .before .before .before .before .before .before .before .before .loop .inv .3),
       rw (c .link-at2 .ensures) (partly-turn _ _ _ _ (c .before .before .before .before .before .before .before .before .before .before .before .before .before .before .before .before .before .before .before .before .before .pre .table) _ _ _ (c .before .before .before .before .before .before .before .before .loop-test .taken) _ _ (λ x lx. c .before .before .before .before .before .before .before .before .before .loop .inv .3 (c .before .before .before .before .before .before .before .before .before .loop .c) x (omega (arith, c .before .before .before .before .before .before .before .before .before .loop .inv .0)) (omega (arith, c .before .before .before .before .before .before .before .before .before .loop .inv .1, c .before .before .before .before .before .before .before .before .loop-test .taken)) lx) (c .before .before .before .keep-parents .ensures) (c .before .before .before .before .before .before .before .before .before .loop .inv .4)),
+      λ x l t. c .before .before .before .before .before .before .before .before .before .loop .inv .5 x l (c .before .before .before .keep-parents .ensures .bits x l .0 t .0),
     )
 
 same-length-2 : tie.Need-same-length-2 Inv-loop μ-loop

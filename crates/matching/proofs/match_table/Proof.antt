@@ -1,3 +1,4 @@
+-- The rows from u on are filled, all other bits are clear.
 use borrow.Author.Needs.{needs}
 use mathlib.Core.List.{List}
 use Prim.Native.Nat.{ℕ, _≤_}
@@ -8,8 +9,6 @@ use Rattle.matching.specs.Table.{Filled}
 use Rattle.matching.proofs.Filling.{filled-none, filled-ready, filled-more, filled-all}
 use Rattle.matching.proofs.match_table.Statement.{statement}
 use Rattle.matching.proofs.match_table.Tie as tie
-use Rattle.bits.proofs.clear.Reads as clear-reads
-use Rattle.matching.proofs.match_row.Reads as match-row-reads
 
 abbrev Inv-loop : tie.InvT-loop
 Inv-loop workspace₀ code span n parents labels u₀ workspace u = (u ≤ n) × ((w : List ℕ) → Cleared w tableBytes workspace₀ → Filled w code span parents labels n u workspace)

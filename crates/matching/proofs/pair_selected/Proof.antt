@@ -1,6 +1,6 @@
-use borrow.Author.Needs.{needs}
-use mathlib.Core.Path.{_≡_, sym, _∙_}
-use Prim.Native.Nat.{ℕ, _+_, _<_}
+-- The pair is selected exactly if the ways from u on x and from v on y can be laid at once.
+use mathlib.Core.Path.{sym, _∙_}
+use Prim.Native.Nat.{_+_, _<_}
 use native.Mathlib.Omega.{arith}
 use lib.ListN.{length}
 use borrow.Author.Tests.{not-true, not-false}
@@ -9,11 +9,6 @@ use Rattle.matching.proofs.Marks.{s-somewhere, d-somewhere}
 use Rattle.matching.proofs.Pair.{bounds, up-less, parent-node, Meeting, meeting-none, meeting-more, meeting-not, meeting-more-d, meeting-not-d, meeting-apart, meeting-all}
 use Rattle.matching.proofs.pair_selected.Statement.{statement}
 use Rattle.matching.proofs.pair_selected.Tie as tie
-use Rattle.matching.proofs.can_climb.Reads as can-climb-reads
-use Rattle.matching.proofs.climbs.Reads as climbs-reads
-use Rattle.matching.proofs.link_at.Reads as link-at-reads
-use Rattle.matching.proofs.parent_at.Reads as parent-at-reads
-use Rattle.matching.proofs.row_of.Reads as row-of-reads
 
 abbrev Inv-loop : tie.InvT-loop
 Inv-loop workspace mark up parents m n u₀ v₀ x₀ y₀ u v x y = (x < length parents) × (y < length parents) × Meeting workspace mark up parents m n u x v y

@@ -1,3 +1,4 @@
+-- A number of 32 bits fits.
 use native.Mathlib.Omega.{arith}
 use borrow.Author.Needs.{needs}
 use Rattle.matching.proofs.parent_at.Statement.{statement}

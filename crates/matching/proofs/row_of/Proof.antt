@@ -1,4 +1,4 @@
-use borrow.Author.Needs.{needs}
+-- No row before u bears the mark.
 use mathlib.Core.Path.{_≡_}
 use Prim.Native.Nat.{ℕ, _-_, _<_}
 use native.Mathlib.Omega.{arith}
