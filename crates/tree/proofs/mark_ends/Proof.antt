@@ -1,9 +1,9 @@
-use Rattle.treelaws.proofs.Laws.{ends-one, ends-two}
+use Rattle.tree.proofs.Laws.{ends-one, ends-two}
 use borrow.Author.Needs.{needs}
-use Rattle.treelaws.proofs.mark_ends.Statement.{statement}
-use Rattle.treelaws.proofs.mark_ends.Tie as tie
-use Rattle.treelaws.proofs.mark_ends.Reads as reads
-use Rattle.treelaws.proofs.mark_ends.Lts as lts
+use Rattle.tree.proofs.mark_ends.Statement.{statement}
+use Rattle.tree.proofs.mark_ends.Tie as tie
+use Rattle.tree.proofs.mark_ends.Reads as reads
+use Rattle.tree.proofs.mark_ends.Lts as lts
 
 -- src/lib.rt:13:5
 slice-write-mark : tie.Need-slice-write-mark
