@@ -4,15 +4,15 @@ use mathlib.Core.Path.{_≡_, refl, sym, ap, _∙_}
 use mathlib.Core.Logic.{_⊎_, inl, inr}
 use mathlib.Core.Bool.{Bool, true, false}
 use mathlib.Core.List.{List}
-use Prim.Native.Nat.{ℕ, zero, suc, _+_, _%_, _≤_, _<_, max}
+use Prim.Native.Nat.{ℕ, zero, suc, _+_, _%_, _≤_, _<_}
 use native.Mathlib.Omega.{arith}
 use native.Mathlib.Decide.{ℕ-discrete}
 use lib.ListN.{getD}
 use lib.Dec.{ltb, eqb}
 use borrow.Author.Tests.{lt-ltb, le-ltb, eq-eqb, ne-eqb, eqb-true, eqb-false}
 use Rattle.meaning.specs.Basics.{is, decBoth}
-use Rattle.meaning.specs.Tree.{Forest, bare, tree, Tag, Any}
-use Rattle.meaning.specs.Folding.{LabLe, MarkLe, TagLe, Folds, Onto, decMark, decTag, decOnto}
+use Rattle.meaning.specs.Tree.{Forest, bare, tree}
+use Rattle.meaning.specs.Folding.{LabLe, MarkLe, TagLe, Onto, decMark, decTag, decOnto}
 use Rattle.rows.specs.Rows.{labOf, tagAt, below, Holds}
 use Rattle.rows.proofs.Rows.{Opens, holds-first}
 use Rattle.fold.specs.Kept.{leftBelow, marksFit, OntoRow, ontoRow, height, Stands}
@@ -137,7 +137,7 @@ module _ (code mark span up : List ℕ) where
       unfolding ontoRow
       onto-each e f = is-yes (ontoDec code mark span up u v) (true-is (tagDec code mark u v) e, folds-of-rows code mark span up u (leftBelow code mark span up v) _ _ (below span u) (S .held) f)
 
-      pub onto-some : (a b : ℕ) → Top b (below span v) → getD up b 0 ≡ v → OntoRow code mark span up a b → Lands code mark span up u (leftBelow code mark span up v) a
+      onto-some : (a b : ℕ) → Top b (below span v) → getD up b 0 ≡ v → OntoRow code mark span up a b → Lands code mark span up u (leftBelow code mark span up v) a
       onto-some a b t q o d = any-of-row code mark span up v (Onto (tagAt code mark a) (leftBelow code mark span up a)) _ _ (below span v) (R .held) b t q o
 
       pub onto-none : (a : ℕ) → Top a (below span u) → getD up a 0 ≡ u
