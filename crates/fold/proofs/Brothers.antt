@@ -3,12 +3,11 @@
 use mathlib.Core.Path.{_≡_, refl, sym, ap, _∙_}
 use mathlib.Core.Logic.{_⊎_, inl, inr}
 use mathlib.Core.List.{List}
-use Prim.Native.Nat.{ℕ, zero, suc, _+_, _≤_, _<_}
+use Prim.Native.Nat.{ℕ, suc, _+_, _≤_, _<_}
 use native.Mathlib.Omega.{arith}
 use native.Mathlib.Numerals.{add-one}
 use native.Mathlib.Decide.{ℕ-discrete, decLe}
 use lib.ListN.{getD}
-use lib.Dec.{eqb}
 use borrow.Author.Tests.{eq-eqb, ne-eqb}
 use Rattle.meaning.specs.Tree.{Forest, bare, tree, Tag, Any}
 use Rattle.meaning.specs.Folding.{Folds, Onto}
@@ -106,18 +105,31 @@ module _ {span : List ℕ} {p : ℕ} {P : ℕ → Type 0} {a e : ℕ} (O : Over 
       record { ends = O .ends; rest = O .rest; held = O .held; inside = O .inside; later = O .later; shown = λ x t l. f x t (O .shown x t l) }
 
 -- ------------------------------------------------------------------ the rows that are still there
-module _ (code mark up : List ℕ) (p i : ℕ) (k r : Forest ℕ) where
-  pub left-here : getD up i 0 ≡ p → left code mark up p (tree i k r) ≡ tree (tagAt code mark i) (left code mark up i k) (left code mark up p r)
-  unfolding left kept mapT
-  left-here e = rw (eq-eqb (getD up i 0) p e)
+pub kept-bare : (up : List ℕ) (p : ℕ) → kept up p bare ≡ bare
+unfolding kept
+kept-bare up p = refl
 
-  pub left-gone : ¬ (getD up i 0 ≡ p) → left code mark up p (tree i k r) ≡ left code mark up p r
-  unfolding left kept
-  left-gone n = rw (ne-eqb (getD up i 0) p n)
+module _ (up : List ℕ) (p i : ℕ) (k r : Forest ℕ) where
+  pub kept-here : getD up i 0 ≡ p → kept up p (tree i k r) ≡ tree i (kept up i k) (kept up p r)
+  unfolding kept
+  kept-here e = rw (eq-eqb (getD up i 0) p e)
+
+  pub kept-away : ¬ (getD up i 0 ≡ p) → kept up p (tree i k r) ≡ kept up p r
+  unfolding kept
+  kept-away n = rw (ne-eqb (getD up i 0) p n)
 
 pub left-bare : (code mark up : List ℕ) (p : ℕ) → left code mark up p bare ≡ bare
-unfolding left kept mapT
-left-bare code mark up p = refl
+unfolding left mapT
+left-bare code mark up p = rw (kept-bare up p)
+
+module _ (code mark up : List ℕ) (p i : ℕ) (k r : Forest ℕ) where
+  pub left-here : getD up i 0 ≡ p → left code mark up p (tree i k r) ≡ tree (tagAt code mark i) (left code mark up i k) (left code mark up p r)
+  unfolding left mapT
+  left-here e = rw (kept-here up p i k r e)
+
+  pub left-away : ¬ (getD up i 0 ≡ p) → left code mark up p (tree i k r) ≡ left code mark up p r
+  unfolding left
+  left-away n = rw (kept-away up p i k r n)
 
 module _ (code mark span up : List ℕ) (p : ℕ) where
   -- what is left of brothers, brother by brother: the first is there with what is left below it, or it is not there
@@ -140,7 +152,7 @@ module _ (code mark span up : List ℕ) (p : ℕ) where
           × (¬ (getD up i 0 ≡ p) → Q (tree i (below span i) r) (left code mark up p r))
           → Q (tree i (below span i) r) (left code mark up p (tree i (below span i) r))
       go (yes d) q = rw (left-here code mark up p i (below span i) r d) (q .0 d)
-      go (no d) q = rw (left-gone code mark up p i (below span i) r d) (q .1 d)
+      go (no d) q = rw (left-away code mark up p i (below span i) r d) (q .1 d)
 
   -- some brother that is still there is so
   pub any-of-row : (P : Tag → Forest Tag → Type 0) (u e : ℕ) (F : Forest ℕ) → Holds span u e F

@@ -1,6 +1,6 @@
 -- "Of two different brothers where one folds onto the other, the folding one goes, with all below it" (01, Folding), among the children of one row.
 -- When a child goes, what is left below the other children does not change, so what did not fold before does not fold after, and the search goes on.
-use mathlib.Core.Path.{_≡_, refl, sym, ap, _∙_}
+use mathlib.Core.Path.{_≡_, refl, sym, _∙_}
 use mathlib.Core.Logic.{_⊎_, inl, inr}
 use mathlib.Core.Bool.{Bool, true, false, not, _&&_}
 use mathlib.Core.List.{List}
@@ -10,7 +10,7 @@ use native.Mathlib.Decide.{ℕ-discrete}
 use lib.ListN.{length, getD, set, length-set}
 use lib.Seq.{getD-set-same, getD-set-other}
 use lib.Dec.{eqb}
-use borrow.Author.Tests.{eq-eqb, ne-eqb, eqb-true, eqb-false}
+use borrow.Author.Tests.{eq-eqb, ne-eqb, eqb-true}
 use Rattle.meaning.specs.Tree.{Forest, bare, tree, Tag, Any, size}
 use Rattle.meaning.specs.Folding.{Onto}
 use Rattle.theory.proofs.Folding.{Equal, equal-refl, equal-trans}
@@ -18,7 +18,7 @@ use Rattle.theory.proofs.Removal.{Pruned, end, gone, kept, pruned-refl, pruned-
 use Rattle.rows.specs.Rows.{tagAt, below, Holds}
 use Rattle.rows.proofs.Rows.{size-holds, Opens}
 use Rattle.fold.specs.Kept.{goneRow, left, leftBelow, OntoRow, ontoRow, Stands, Goes, Only, ChildrenFolded}
-use Rattle.fold.proofs.Brothers.{Top, top-range, top-opens, Over, over-child, over-step, over-next, over-all, over-map, left-bare, left-here, left-gone, left-ind, any-of-row, apart-of-rows}
+use Rattle.fold.proofs.Brothers.{Top, top-range, top-opens, Over, over-child, over-step, over-next, over-all, over-map, left-bare, left-here, left-away, left-ind, any-of-row, apart-of-rows}
 use Rattle.fold.proofs.Test.{stands-child, true-onto, false-onto}
 
 -- ------------------------------------------------------------------ below a child nothing changes
@@ -35,8 +35,8 @@ module _ (code mark span : List ℕ) {p : ℕ} {up up′ : List ℕ} (only : Onl
           → left code mark up′ q r ≡ left code mark up q r → left code mark up′ q (tree i k r) ≡ left code mark up q (tree i k r)
       go (yes z) (inl s) x y = rw (left-here code mark up′ q i k r (s ∙ z), left-here code mark up q i k r z, x, y)
       go (yes z) (inr g) x y = absurd (omega (arith, g .child))
-      go (no n) (inl s) x y = rw (left-gone code mark up′ q i k r (λ z. n (sym s ∙ z)), left-gone code mark up q i k r n) y
-      go (no n) (inr g) x y = rw (left-gone code mark up′ q i k r (λ z. omega (arith, g .away)), left-gone code mark up q i k r n) y
+      go (no n) (inl s) x y = rw (left-away code mark up′ q i k r (λ z. n (sym s ∙ z)), left-away code mark up q i k r n) y
+      go (no n) (inr g) x y = rw (left-away code mark up′ q i k r (λ z. omega (arith, g .away)), left-away code mark up q i k r n) y
 
   pub below-same : (x : ℕ) → p < x → x + getD span x 0 ≤ 256 → 1 ≤ getD span x 0 → Holds span (suc x) (x + getD span x 0) (below span x)
       → leftBelow code mark span up′ x ≡ leftBelow code mark span up x
@@ -51,7 +51,7 @@ abbrev pub Alone : List ℕ → List ℕ → List ℕ → List ℕ → ℕ → �
 Alone code mark span up p x =
     getD up x 0 ≡ p → (y : ℕ) → Top y (below span p) → ¬ (x ≡ y) → getD up y 0 ≡ p → ¬ OntoRow code mark span up x y
 
-pub only-trans : (span : List ℕ) (p : ℕ) (f g h : List ℕ) → Only span p f g → Only span p g h → Only span p f h
+only-trans : (span : List ℕ) (p : ℕ) (f g h : List ℕ) → Only span p f g → Only span p g h → Only span p f h
 only-trans span p f g h x y j = go (x j) (y j)
   where
     go : (getD g j 0 ≡ getD f j 0) ⊎ Goes span f g p j → (getD h j 0 ≡ getD g j 0) ⊎ Goes span g h p j → (getD h j 0 ≡ getD f j 0) ⊎ Goes span f h p j
@@ -101,14 +101,14 @@ module _ (code mark span up : List ℕ) (p a : ℕ) (S : Stands code mark span u
           → getD up i 0 ≡ p → Dec (i ≡ a)
           → Pruned h (tree (tagAt code mark i) (leftBelow code mark span up i) (left code mark up p r)) (left code mark (set up a goneRow) p (tree i (below span i) r))
       here i r l o m d (yes e) =
-          rw (left-gone code mark (set up a goneRow) p i (below span i) r (λ z. was i z .0 e)) (let y′ : Any (Onto (tagAt code mark i) (leftBelow code mark span up i)) h = rw e y in gone y′ m)
+          rw (left-away code mark (set up a goneRow) p i (below span i) r (λ z. was i z .0 e)) (let y′ : Any (Onto (tagAt code mark i) (leftBelow code mark span up i)) h = rw e y in gone y′ m)
       here i r l o m d (no n) =
           rw (left-here code mark (set up a goneRow) p i (below span i) r (getD-set-other up a i goneRow 0 n ∙ d), same i l o)
           (kept (pruned-refl (leftBelow code mark span up i) (leftBelow code mark span up i)) m)
 
       away : (i : ℕ) (r : Forest ℕ) → Pruned h (left code mark up p r) (left code mark (set up a goneRow) p r) → ¬ (getD up i 0 ≡ p)
           → Pruned h (left code mark up p r) (left code mark (set up a goneRow) p (tree i (below span i) r))
-      away i r m d = rw (left-gone code mark (set up a goneRow) p i (below span i) r (λ z. d (was i z .1))) m
+      away i r m d = rw (left-away code mark (set up a goneRow) p i (below span i) r (λ z. d (was i z .1))) m
 
   -- a folds onto another child b: with a or without it the children fold onto each other
   goes-equal : (b : ℕ) → Top b (below span p) → getD up b 0 ≡ p → ¬ (a ≡ b) → OntoRow code mark span up a b
@@ -138,7 +138,7 @@ pub record Searched (code mark span up : List ℕ) (p : ℕ) (up′ : List ℕ) 
 pub searched-none : (code mark span up : List ℕ) (p : ℕ) → Searched code mark span up p up
 searched-none code mark span up p = record { long = refl; only = λ j. inl refl; equal = equal-refl (leftBelow code mark span up p) }
 
-pub searched-stands : {code mark span up : List ℕ} {p : ℕ} {up′ : List ℕ} → Stands code mark span up p → Searched code mark span up p up′
+searched-stands : {code mark span up : List ℕ} {p : ℕ} {up′ : List ℕ} → Stands code mark span up p → Searched code mark span up p up′
     → Stands code mark span up′ p
 searched-stands S W =
     record { some = S .some; codes = S .codes; marks = S .marks; spans = S .spans; ups = omega (arith, S .ups, W .long); few = S .few; held = S .held }

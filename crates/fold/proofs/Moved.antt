@@ -12,12 +12,12 @@ use lib.ListN.{length, getD, set, length-set, length-append}
 use lib.Seq.{getD-set-same, getD-set-other, getD-at}
 use lib.Dec.{eqb}
 use borrow.Author.Tests.{eq-eqb, ne-eqb}
-use Rattle.meaning.specs.Tree.{Forest, bare, tree, Tag, size}
-use Rattle.rows.specs.Rows.{tagAt, below, shape, mapT, treeRows, Holds, width, Counted, Hung, noRow, Rows}
+use Rattle.meaning.specs.Tree.{Forest, bare, tree, size}
+use Rattle.rows.specs.Rows.{tagAt, shape, mapT, treeRows, Holds, width, Counted, Hung, noRow, Rows}
 use Rattle.rows.proofs.Rows.{size-mapT, width-mapT, size-holds, holds-is, row-opens, rows-top, row-up}
-use Rattle.order.specs.Table.{tableTree, Table}
 use Rattle.order.proofs.RowsTable.{rows-tree, rows-table}
 use Rattle.fold.specs.Kept.{goneRow, kept, left, keptTree, Remains, parentMoved, Movable, RowMoved, RowsKept}
+use Rattle.fold.proofs.Brothers.{kept-bare, kept-here, kept-away}
 
 -- ------------------------------------------------------------------ the walk
 -- the nodes of a forest, each before what lies below it
@@ -50,18 +50,6 @@ module _ {span up : List ℕ} {n : ℕ} where
   walk-stop (stop l) m = refl
   walk-stop (skip l g w) m = absurd (omega arith)
   walk-stop (take l d w) m = absurd (omega arith)
-
-kept-here : (up : List ℕ) (p i : ℕ) (k r : Forest ℕ) → getD up i 0 ≡ p → kept up p (tree i k r) ≡ tree i (kept up i k) (kept up p r)
-unfolding kept
-kept-here up p i k r e = rw (eq-eqb (getD up i 0) p e)
-
-kept-away : (up : List ℕ) (p i : ℕ) (k r : Forest ℕ) → ¬ (getD up i 0 ≡ p) → kept up p (tree i k r) ≡ kept up p r
-unfolding kept
-kept-away up p i k r n = rw (ne-eqb (getD up i 0) p n)
-
-kept-bare : (up : List ℕ) (p : ℕ) → kept up p bare ≡ bare
-unfolding kept
-kept-bare up p = refl
 
 module _ (span up was : List ℕ) (n : ℕ) (few : n ≤ 256) (only : (j : ℕ) → (getD up j 0 ≡ getD was j 0) ⊎ ((0 < j) × (j < n) × (getD up j 0 ≡ goneRow))) where
   -- it meets the nodes that are left, in their order
@@ -363,17 +351,17 @@ module _ (code₀ mark₀ up code mark parent moved : List ℕ) (i : ℕ) where
     hung-moved p q (suc t + size k) r h′ b e l,
   )
 
-kept-hung : (up : List ℕ) (p : ℕ) (F : Forest ℕ) → Hung up p (kept up p F)
-kept-hung up p bare = rw (kept-bare up p) tt
-kept-hung up p (tree i k r) = go (ℕ-discrete (getD up i 0) p) (kept-hung up i k) (kept-hung up p r)
+hung-kept : (up : List ℕ) (p : ℕ) (F : Forest ℕ) → Hung up p (kept up p F)
+hung-kept up p bare = rw (kept-bare up p) tt
+hung-kept up p (tree i k r) = go (ℕ-discrete (getD up i 0) p) (hung-kept up i k) (hung-kept up p r)
   where
     go : Dec (getD up i 0 ≡ p) → Hung up i (kept up i k) → Hung up p (kept up p r) → Hung up p (kept up p (tree i k r))
     go (yes e) x y = rw (kept-here up p i k r e) (e, x, y)
     go (no n) x y = rw (kept-away up p i k r n) y
 
-kept-width : (up : List ℕ) (p : ℕ) (F : Forest ℕ) → width (kept up p F) ≤ width F
-kept-width up p bare = rw (kept-bare up p) (omega arith)
-kept-width up p (tree i k r) = go (ℕ-discrete (getD up i 0) p) (kept-width up p r)
+width-kept : (up : List ℕ) (p : ℕ) (F : Forest ℕ) → width (kept up p F) ≤ width F
+width-kept up p bare = rw (kept-bare up p) (omega arith)
+width-kept up p (tree i k r) = go (ℕ-discrete (getD up i 0) p) (width-kept up p r)
   where
     go : Dec (getD up i 0 ≡ p) → width (kept up p r) ≤ width r → width (kept up p (tree i k r)) ≤ suc (width r)
     go (yes e) y = rw (kept-here up p i k r e) (omega arith)
@@ -433,8 +421,8 @@ module _ {code₀ mark₀ span up : List ℕ} {n : ℕ} (R : Remains code₀ mar
             (counted-moved code₀ mark₀ up code mark parent moved i counts 0 F spread (values-at width F counts [] [] 0 (sym (append-nil counts)) refl));
         hung =
             rw shape-is
-            (hung-moved code₀ mark₀ up code mark parent moved i noRow noRow 0 F (kept-hung up noRow (shape span n)) spread refl (omega (arith, M .until, R .rows .few)));
-        single = rw (shape-is, width-mapT (λ x. getD moved x 0) F) (omega (arith, kept-width up noRow (shape span n), R .rows .single));
+            (hung-moved code₀ mark₀ up code mark parent moved i noRow noRow 0 F (hung-kept up noRow (shape span n)) spread refl (omega (arith, M .until, R .rows .few)));
+        single = rw (shape-is, width-mapT (λ x. getD moved x 0) F) (omega (arith, width-kept up noRow (shape span n), R .rows .single));
       }
 
   tree-is : treeRows code mark spans j ≡ keptTree code₀ mark₀ span up n

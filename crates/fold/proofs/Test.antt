@@ -2,21 +2,21 @@
 -- some child of v." A law for each way out of the code, and the height of what lies below a row, which falls from a row to its children.
 use mathlib.Core.Path.{_≡_, refl, sym, ap, _∙_}
 use mathlib.Core.Logic.{_⊎_, inl, inr}
-use mathlib.Core.Bool.{Bool, true, false}
+use mathlib.Core.Bool.{Bool, true, false, not}
 use mathlib.Core.List.{List}
-use Prim.Native.Nat.{ℕ, zero, suc, _+_, _%_, _≤_, _<_, max}
+use Prim.Native.Nat.{ℕ, zero, suc, _+_, _%_, _≤_, _<_}
 use native.Mathlib.Omega.{arith}
 use native.Mathlib.Decide.{ℕ-discrete}
 use lib.ListN.{getD}
 use lib.Dec.{ltb, eqb}
-use borrow.Author.Tests.{lt-ltb, le-ltb, eq-eqb, ne-eqb, eqb-true, eqb-false}
+use borrow.Author.Tests.{lt-ltb, le-ltb, eq-eqb, ne-eqb, eqb-true, eqb-false, not-true, not-false}
 use Rattle.meaning.specs.Basics.{is, decBoth}
-use Rattle.meaning.specs.Tree.{Forest, bare, tree, Tag, Any}
-use Rattle.meaning.specs.Folding.{LabLe, MarkLe, TagLe, Folds, Onto, decMark, decTag, decOnto}
+use Rattle.meaning.specs.Tree.{Forest, bare, tree}
+use Rattle.meaning.specs.Folding.{LabLe, MarkLe, TagLe, Onto, decMark, decTag, decOnto}
 use Rattle.rows.specs.Rows.{labOf, tagAt, below, Holds}
 use Rattle.rows.proofs.Rows.{Opens, holds-first}
 use Rattle.fold.specs.Kept.{leftBelow, marksFit, OntoRow, ontoRow, height, Stands}
-use Rattle.fold.proofs.Brothers.{Top, Over, Lands, over-child, over-step, over-next, any-of-row, row-of-any, folds-of-rows, row-of-folds}
+use Rattle.fold.proofs.Brothers.{Top, Over, Lands, over-start, over-child, over-step, over-next, over-all, any-of-row, row-of-any, folds-of-rows, row-of-folds}
 
 -- ------------------------------------------------------------------ decisions as truth values
 is-yes : {P : Type 0} (d : Dec P) → P → true ≡ is d
@@ -128,19 +128,19 @@ module _ (code mark span up : List ℕ) where
     unfolding ontoRow
     false-onto e = false-is (ontoDec code mark span up u v) e
 
-    pub onto-no-tag : is (decTag (tagAt code mark u) (tagAt code mark v)) ≡ false → false ≡ ontoRow code mark span up u v
+    onto-no-tag : is (decTag (tagAt code mark u) (tagAt code mark v)) ≡ false → false ≡ ontoRow code mark span up u v
     unfolding ontoRow
     onto-no-tag e = is-no (ontoDec code mark span up u v) (λ o. false-is (tagDec code mark u v) e (o .0))
 
     module _ (S : Stands code mark span up u) (R : Stands code mark span up v) where
-      pub onto-each : is (decTag (tagAt code mark u) (tagAt code mark v)) ≡ true → ((x : ℕ) → Top x (below span u) → Lands code mark span up u (leftBelow code mark span up v) x) → true ≡ ontoRow code mark span up u v
+      onto-each : is (decTag (tagAt code mark u) (tagAt code mark v)) ≡ true → ((x : ℕ) → Top x (below span u) → Lands code mark span up u (leftBelow code mark span up v) x) → true ≡ ontoRow code mark span up u v
       unfolding ontoRow
       onto-each e f = is-yes (ontoDec code mark span up u v) (true-is (tagDec code mark u v) e, folds-of-rows code mark span up u (leftBelow code mark span up v) _ _ (below span u) (S .held) f)
 
-      pub onto-some : (a b : ℕ) → Top b (below span v) → getD up b 0 ≡ v → OntoRow code mark span up a b → Lands code mark span up u (leftBelow code mark span up v) a
+      onto-some : (a b : ℕ) → Top b (below span v) → getD up b 0 ≡ v → OntoRow code mark span up a b → Lands code mark span up u (leftBelow code mark span up v) a
       onto-some a b t q o d = any-of-row code mark span up v (Onto (tagAt code mark a) (leftBelow code mark span up a)) _ _ (below span v) (R .held) b t q o
 
-      pub onto-none : (a : ℕ) → Top a (below span u) → getD up a 0 ≡ u
+      onto-none : (a : ℕ) → Top a (below span u) → getD up a 0 ≡ u
           → ((y : ℕ) → Top y (below span v) → Misses v a y) → false ≡ ontoRow code mark span up u v
       unfolding ontoRow
       onto-none a t q n =
@@ -158,6 +158,34 @@ height-child span u e (tree i k r) h a (inl q) =
 height-child span u e (tree i k r) h a (inr t) = let z = height-child span _ e r (h .3) a t in omega arith
 
 -- ------------------------------------------------------------------ the loops of the test
+module _ {code mark span up : List ℕ} {u v : ℕ} (S : Stands code mark span up u) (R : Stands code mark span up v) where
+  -- what u bears does not fit
+  pub no-tag : {r : Bool} → r ≡ is (decTag (tagAt code mark u) (tagAt code mark v)) → not r ≡ true → false ≡ ontoRow code mark span up u v
+  no-tag {r} e f = onto-no-tag code mark span up u v (sym e ∙ not-true r f)
+
+  pub starts : {eu : ℕ} → eu ≡ u + getD span u 0 → Over span u (Lands code mark span up u (leftBelow code mark span up v)) (u + 1) eu
+  starts {eu} e = over-start span u (Lands code mark span up u (leftBelow code mark span up v)) eu e (S .held)
+
+  -- the loop over the children of u stands at row a
+  module _ {a eu : ℕ} (O : Over span u (Lands code mark span up u (leftBelow code mark span up v)) a eu) where
+    -- no child is left
+    pub each : {r : Bool} → r ≡ is (decTag (tagAt code mark u) (tagAt code mark v)) → not r ≡ false → eu ≤ a → true ≡ ontoRow code mark span up u v
+    each {r} e f l = onto-each code mark span up u v S R (sym e ∙ not-false r f) (over-all O l)
+
+    module _ (l : a < eu) where
+      pub leap : {s : ℕ} → s ≡ getD span a 0 → (1 ≤ s) × (a + s ≤ eu)
+      leap d = over-step O l d
+
+      -- a is not there: on with the next child
+      pub passes : {s : ℕ} → s ≡ getD span a 0 → {r : Bool} → r ≡ eqb (getD up a 0) u → r ≡ false
+          → Over span u (Lands code mark span up u (leftBelow code mark span up v)) (a + s) eu
+      passes d e f = over-next O l d (λ q. absurd (eqb-false (getD up a 0) u (sym e ∙ f) q))
+
+      -- a is there and misses every child of v
+      pub none : {r : Bool} → r ≡ eqb (getD up a 0) u → r ≡ true → {b ev : ℕ} → Over span v (Misses code mark span up v a) b ev → ev ≤ b
+          → false ≡ ontoRow code mark span up u v
+      none e f I m = onto-none code mark span up u v S R a (over-child O l .0) (eqb-true (getD up a 0) u (sym e ∙ f)) (over-all I m)
+
 -- the loop over the children of u stands at row a (called a₀ where the loop over the children of v began), the latter at row b
 module _ {code mark span up : List ℕ} {u v : ℕ} (S : Stands code mark span up u) (R : Stands code mark span up v) {a a₀ b eu ev : ℕ}
     (O : Over span u (Lands code mark span up u (leftBelow code mark span up v)) a₀ eu) (l : a₀ < eu) (q : a ≡ a₀) (I : Over span v (Misses code mark span up v a₀) b ev) (m : b < ev) where

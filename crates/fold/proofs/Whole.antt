@@ -1,6 +1,6 @@
 -- "Folding stops when no two brothers anywhere in the tree are left that fold" (01, Folding): the rows from the last to the first, each row's children
 -- folded to the end. What is left is the minimal tree up to the order of brothers.
-use mathlib.Core.Path.{_≡_, refl, sym, ap, _∙_}
+use mathlib.Core.Path.{_≡_, refl, ap, _∙_}
 use mathlib.Core.Logic.{_⊎_, inl, inr}
 use mathlib.Core.List.{List}
 use Prim.Native.Nat.{ℕ, suc, _+_, _≤_, _<_}
@@ -8,16 +8,15 @@ use native.Mathlib.Omega.{arith}
 use native.Mathlib.Decide.{ℕ-discrete, decLt}
 use lib.ListN.{length, getD}
 use borrow.Author.Tests.{eq-eqb}
-use Rattle.meaning.specs.Tree.{Forest, bare, tree, Tag, size}
+use Rattle.meaning.specs.Tree.{Forest, bare, tree, size}
 use Rattle.meaning.specs.Folding.{Reduced, minimal}
-use Rattle.meaning.specs.Image.{ordered}
 use Rattle.theory.proofs.Folding.{Equal, equal-trans, equal-tree}
 use Rattle.theory.proofs.Unique.{minimal-same}
 use Rattle.theory.proofs.Records.{same-ordered}
 use Rattle.rows.specs.Rows.{tagAt, below, shape, mapT, treeRows, Holds, Hung, width, noRow, Rows}
-use Rattle.rows.proofs.Rows.{size-holds, Opens, holds-first, row-opens}
-use Rattle.fold.specs.Kept.{goneRow, kept, left, leftBelow, keptTree, Stands, Goes, Only, NoneFold, ChildrenFolded, Whole, RowsFolded, Remains}
-use Rattle.fold.proofs.Brothers.{Top, top-range, top-opens, left-bare, left-here, left-gone, left-ind}
+use Rattle.rows.proofs.Rows.{Opens, holds-first, row-opens}
+use Rattle.fold.specs.Kept.{goneRow, kept, left, leftBelow, keptTree, Stands, Goes, NoneFold, ChildrenFolded, Whole, RowsFolded, Remains}
+use Rattle.fold.proofs.Brothers.{Top, top-range, left-bare, left-here, left-away, left-ind}
 use Rattle.fold.proofs.Children.{below-same}
 
 -- ------------------------------------------------------------------ parents
@@ -67,7 +66,7 @@ apart-single code mark up p (tree i k bare) l = go (ℕ-discrete (getD up i 0) p
   where
     go : Dec (getD up i 0 ≡ p) → NoneFold (left code mark up p (tree i k bare))
     go (yes d) = rw (left-here code mark up p i k bare d, left-bare code mark up p) (tt, λ x. x, λ x. x)
-    go (no n) = rw (left-gone code mark up p i k bare n, left-bare code mark up p) tt
+    go (no n) = rw (left-away code mark up p i k bare n, left-bare code mark up p) tt
 
 -- ------------------------------------------------------------------ the rows from b on
 -- row j has gone: its parent's children are folded
@@ -204,14 +203,14 @@ rows-whole code mark kids span up n R =
     }
 
 -- where nothing has gone, the tree that is left is the tree
-kept-hung : (up : List ℕ) (p : ℕ) (F : Forest ℕ) → Hung up p F → kept up p F ≡ F
+kept-of-hung : (up : List ℕ) (p : ℕ) (F : Forest ℕ) → Hung up p F → kept up p F ≡ F
 unfolding kept
-kept-hung up p bare h = refl
-kept-hung up p (tree i k r) h = rw (eq-eqb (getD up i 0) p (h .0), kept-hung up i k (h .1), kept-hung up p r (h .2))
+kept-of-hung up p bare h = refl
+kept-of-hung up p (tree i k r) h = rw (eq-eqb (getD up i 0) p (h .0), kept-of-hung up i k (h .1), kept-of-hung up p r (h .2))
 
 pub kept-all : (code mark span up : List ℕ) (n : ℕ) → Whole code mark span up n → keptTree code mark span up n ≡ treeRows code mark span n
 unfolding left treeRows
-kept-all code mark span up n R = ap (mapT (tagAt code mark)) (kept-hung up noRow (shape span n) (R .hung))
+kept-all code mark span up n R = ap (mapT (tagAt code mark)) (kept-of-hung up noRow (shape span n) (R .hung))
 
 -- what folding has left, the rows that are left can be put to the front
 pub folded-remains : (code mark kids span up : List ℕ) (n : ℕ) (up′ : List ℕ) → Rows code mark kids span up n → RowsFolded code mark span up n up′

@@ -99,7 +99,7 @@ pub fn folds_onto(code: &[u32], mark: &[u8], span: &[u16], up: &[u16], u: usize,
     true
 }
 
-// Row b is another child of row p that is still there than row a.
+// Row b is a child of row p that is still there, and not row a.
 fn is_brother(up: &[u16], p: usize, a: usize, b: usize) -> bool
     requires { ⌜ b < length (now up) ⌝ }
     ensures { λ r. ⌜ r ≡ (not (eqb a b) && eqb (getD (now (up .entry)) b 0) p) ⌝ }

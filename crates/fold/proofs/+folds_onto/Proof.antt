@@ -1,16 +1,15 @@
 -- The folding test. The outer loop has shown that every child of u before a lands on some child of v; the inner one that a misses every child of v before b.
 -- The recursion's measure is the height of what lies below u.
 use Prim.Native.Nat.{_+_, _-_, ℕ, _<_}
-use mathlib.Core.Path.{_≡_, refl, sym, _∙_}
+use mathlib.Core.Path.{_≡_, refl}
 use mathlib.Core.Logic.{⊎-elim, inl, inr}
 use native.Mathlib.Omega.{arith}
-use borrow.Author.Tests.{not-true, not-false, eqb-true, eqb-false}
 use borrow.Fn.Kinds.{In}
 use borrow.Fn.PlainCycle.{Measures, is, falls, and}
 use Rattle.rows.specs.Rows.{below}
 use Rattle.fold.specs.Kept.{leftBelow, height}
-use Rattle.fold.proofs.Brothers.{Over, Lands, over-start, over-child, over-step, over-next, over-all}
-use Rattle.fold.proofs.Test.{Misses, onto-no-tag, onto-each, onto-none, calls, step, lands, misses}
+use Rattle.fold.proofs.Brothers.{Over, Lands, over-start, over-step}
+use Rattle.fold.proofs.Test.{Misses, no-tag, starts, each, leap, passes, none, calls, step, lands, misses}
 use Rattle.fold.proofs.folds_onto.Reads as folds-onto
 use Rattle.fold.proofs.folds_onto.Kinds as folds-onto-kinds
 use Rattle.fold.proofs.+folds_onto.Lts-folds_onto as folds-onto-lts
@@ -54,7 +53,7 @@ folds-onto-fits-requires t c κs =
 folds-onto-returns : (t : ℕ) → folds-onto-lts.Need-returns (folds-onto-claims t) (folds-onto-at t) folds-onto.Post folds-onto-Inv-loop folds-onto-μ-loop folds-onto-Inv-child folds-onto-μ-child
 folds-onto-returns t c =
     let s = c .before .before .before .before .before .before in
-    onto-no-tag (s .args .code .now) (s .args .mark .now) (s .args .span .now) (s .args .up .now) (s .args .u) (s .args .v) (sym (c .before .fits2 .ensures) ∙ not-true _ (c .if1 .taken))
+    no-tag (s .pre .1 .0) (s .pre .1 .1) (c .before .fits2 .ensures) (c .if1 .taken)
 
 folds-onto-span-at-requires : (t : ℕ) → folds-onto-lts.Need-span-at-requires (folds-onto-claims t) (folds-onto-at t) folds-onto.Post folds-onto-Inv-loop folds-onto-μ-loop folds-onto-Inv-child folds-onto-μ-child
 folds-onto-span-at-requires t c κs =
@@ -84,7 +83,7 @@ folds-onto-add-a t c =
 folds-onto-child-holds : (t : ℕ) → folds-onto-lts.Need-child-holds (folds-onto-claims t) (folds-onto-at t) folds-onto.Post folds-onto-Inv-loop folds-onto-μ-loop folds-onto-Inv-child folds-onto-μ-child
 folds-onto-child-holds t c =
     let s = c .before .before .before .before .before .before .before .before in
-    over-start _ _ _ _ (omega (arith, c .before .span-at .ensures)) (s .pre .1 .0 .held)
+    starts (s .pre .1 .0) (s .pre .1 .1) (omega (arith, c .before .span-at .ensures))
 
 folds-onto-is-child-requires : (t : ℕ) → folds-onto-lts.Need-is-child-requires (folds-onto-claims t) (folds-onto-at t) folds-onto.Post folds-onto-Inv-loop folds-onto-μ-loop folds-onto-Inv-child folds-onto-μ-child
 folds-onto-is-child-requires t c κs =
@@ -186,7 +185,7 @@ folds-onto-returns-2 t c =
     let child = c .before .before .before .before .before .child in
     let child-test = c .before .before .before .before .child-test in
     let is-child = c .before .before .before .is-child in
-    onto-none (s .args .code .now) (s .args .mark .now) (s .args .span .now) (s .args .up .now) (s .args .u) (s .args .v) (s .pre .1 .0) (s .pre .1 .1) (child .a) (over-child (child .inv) (child-test .taken) .0) (eqb-true _ _ (sym (is-child .ensures) ∙ c .before .before .if2 .taken)) (over-all (c .before .loop .inv .1) (c .loop-test .left))
+    none (s .pre .1 .0) (s .pre .1 .1) (child .inv) (child-test .taken) (is-child .ensures) (c .before .before .if2 .taken) (c .before .loop .inv .1) (c .loop-test .left)
 
 folds-onto-span-at-requires-5 : (t : ℕ) → folds-onto-lts.Need-span-at-requires-5 (folds-onto-claims t) (folds-onto-at t) folds-onto.Post folds-onto-Inv-loop folds-onto-μ-loop folds-onto-Inv-child folds-onto-μ-child
 folds-onto-span-at-requires-5 t c κs =
@@ -199,26 +198,28 @@ folds-onto-add-a-3 t c =
     let s = c .before .before .before .before .before .before .before .before .before .before .before .before .before in
     let child = c .before .before .before .before .child in
     let child-test = c .before .before .before .child-test in
-    omega (arith, s .pre .1 .0, child .inv .ends, over-step (child .inv) (child-test .taken) (c .span-at5 .ensures))
+    omega (arith, s .pre .1 .0, child .inv .ends, leap (s .pre .1 .0) (s .pre .1 .1) (child .inv) (child-test .taken) (c .span-at5 .ensures))
 
 folds-onto-child-less-2 : (t : ℕ) → folds-onto-lts.Need-child-less-2 (folds-onto-claims t) (folds-onto-at t) folds-onto.Post folds-onto-Inv-loop folds-onto-μ-loop folds-onto-Inv-child folds-onto-μ-child
 folds-onto-child-less-2 t c =
+    let s = c .before .before .before .before .before .before .before .before .before .before .before .before .before in
     let child = c .before .before .before .before .child in
     let child-test = c .before .before .before .child-test in
-    omega (arith, over-step (child .inv) (child-test .taken) (c .span-at5 .ensures))
+    omega (arith, leap (s .pre .1 .0) (s .pre .1 .1) (child .inv) (child-test .taken) (c .span-at5 .ensures))
 
 folds-onto-child-again-2 : (t : ℕ) → folds-onto-lts.Need-child-again-2 (folds-onto-claims t) (folds-onto-at t) folds-onto.Post folds-onto-Inv-loop folds-onto-μ-loop folds-onto-Inv-child folds-onto-μ-child
 folds-onto-child-again-2 t c =
+    let s = c .before .before .before .before .before .before .before .before .before .before .before .before .before in
     let child = c .before .before .before .before .child in
     let child-test = c .before .before .before .child-test in
-    over-next (child .inv) (child-test .taken) (c .span-at5 .ensures) (λ q. absurd (eqb-false _ _ (sym (c .before .before .is-child .ensures) ∙ c .before .if2 .left) q))
+    passes (s .pre .1 .0) (s .pre .1 .1) (child .inv) (child-test .taken) (c .span-at5 .ensures) (c .before .before .is-child .ensures) (c .before .if2 .left)
 
 folds-onto-returns-3 : (t : ℕ) → folds-onto-lts.Need-returns-3 (folds-onto-claims t) (folds-onto-at t) folds-onto.Post folds-onto-Inv-loop folds-onto-μ-loop folds-onto-Inv-child folds-onto-μ-child
 folds-onto-returns-3 t c =
     let s = c .before .before .before .before .before .before .before .before .before .before in
     let fits2 = c .before .before .before .before .before .fits2 in
     let if1 = c .before .before .before .before .if1 in
-    onto-each (s .args .code .now) (s .args .mark .now) (s .args .span .now) (s .args .up .now) (s .args .u) (s .args .v) (s .pre .1 .0) (s .pre .1 .1) (sym (fits2 .ensures) ∙ not-false _ (if1 .left)) (over-all (c .before .child .inv) (c .child-test .left))
+    each (s .pre .1 .0) (s .pre .1 .1) (c .before .child .inv) (fits2 .ensures) (if1 .left) (c .child-test .left)
 
 pub +folds-onto-spec : {M : Type 1} → statement M
 +folds-onto-spec = close μ-folds-onto λ t. folds-onto-lts.spec (folds-onto-claims t) (folds-onto-at t) folds-onto.Post folds-onto-Inv-loop folds-onto-μ-loop folds-onto-Inv-child folds-onto-μ-child
