@@ -12,7 +12,7 @@ use Rattle.meaning.specs.Tree.{Forest, bare, tree, Tag, Any, size}
 use Rattle.meaning.specs.Folding.{Folds, Onto, decMark, decOnto, minimal}
 use Rattle.meaning.specs.Image.{ordered}
 use Rattle.rows.specs.Rows.{tagAt, below, shape, mapT, treeRows, Holds, Hung, width, noRow, Rows}
-use Rattle.order.specs.Table.{tableTree, Table}
+use Rattle.order.specs.Table.{tableTree, TreeTable}
 
 -- ------------------------------------------------------------------ what is still there
 -- the number that a row's parent number becomes when the row goes: no row has it, and it is not `noRow`
@@ -137,6 +137,6 @@ pub record RowMoved (code mark up : List ℕ) (i : ℕ) (parent moved : List ℕ
 
 -- the first r rows are the table of the tree that was left
 pub record RowsKept (code mark span up : List ℕ) (n : ℕ) (code′ mark′ parent : List ℕ) (r : ℕ) : Type 0 where
-  pub table : Table parent code′ mark′ r
+  pub table : TreeTable parent code′ mark′ r
   pub same : tableTree parent code′ mark′ r ≡ keptTree code mark span up n
   pub count : r ≡ size (keptTree code mark span up n)
