@@ -1,0 +1,5 @@
+mod Brothers
+mod Test
+mod Children
+pub mod Whole
+mod Moved

@@ -1,0 +1,48 @@
+-- The new number of a parent is read from the places of the rows that have moved.
+use mathlib.Core.Logic.{⊎-elim}
+use native.Mathlib.Omega.{arith}
+use borrow.Author.Needs.{needs}
+use Rattle.fold.proofs.Moved.{parent-top, parent-row}
+use Rattle.fold.proofs.parent_moved.Statement.{statement}
+use Rattle.fold.proofs.parent_moved.Tie as tie
+
+mul-p : tie.Need-mul-p
+mul-p c = search needs
+
+shared-slice-read-p : tie.Need-shared-slice-read-p
+shared-slice-read-p c = search needs
+
+returns : tie.Need-returns
+returns c =
+    let s = c .before .before .before .before in
+    parent-top _ (s .args .moved .now) _ (c .if1 .taken)
+
+wide-requires : tie.Need-wide-requires
+wide-requires c κs = search needs
+
+mul-result : tie.Need-mul-result
+mul-result c =
+    let s = c .before .before .before .before .before in
+    ⊎-elim (λ e. absurd (c .before .if1 .left e)) (λ l. omega (arith, c .wide .ensures)) (s .pre .1)
+
+shared-slice-read-result : tie.Need-shared-slice-read-result
+shared-slice-read-result c =
+    let s = c .before .before .before .before .before .before in
+    ⊎-elim (λ e. absurd (c .before .before .if1 .left e)) (λ l. omega (arith, c .before .wide .ensures)) (s .pre .1)
+
+returns-2 : tie.Need-returns-2
+returns-2 c =
+    let s = c .before .before .before .before .before .before in
+    parent-row (s .args .up .now) (s .args .moved .now) (s .args .i) (c .before .before .if1 .left) _ (c .before .wide .ensures)
+
+pub parent-moved-spec : {M : Type 1} → statement M
+parent-moved-spec =
+    tie.close
+    (tie.spec
+    mul-p
+    shared-slice-read-p
+    returns
+    wide-requires
+    mul-result
+    shared-slice-read-result
+    returns-2)

@@ -1,0 +1,142 @@
+-- Folding over rows in image order: which rows are still there, the folding test, and what folding to the end leaves.
+-- A row goes, with all below it, by one store: the number of its parent becomes `goneRow`. Rows below it are never reached again.
+use mathlib.Core.Path.{_≡_}
+use mathlib.Core.Logic.{_⊎_}
+use mathlib.Core.Bool.{Bool, cond}
+use mathlib.Core.List.{List}
+use Prim.Native.Nat.{ℕ, suc, _+_, _%_, _≤_, _<_, max}
+use lib.ListN.{length, getD, set}
+use lib.Dec.{ltb, eqb}
+use Rattle.meaning.specs.Basics.{is, decBoth}
+use Rattle.meaning.specs.Tree.{Forest, bare, tree, Tag, Any, size}
+use Rattle.meaning.specs.Folding.{Folds, Onto, decMark, decOnto, minimal}
+use Rattle.meaning.specs.Image.{ordered}
+use Rattle.rows.specs.Rows.{tagAt, below, shape, mapT, treeRows, Holds, Hung, width, noRow, Rows}
+use Rattle.order.specs.Table.{tableTree, TreeTable}
+
+-- ------------------------------------------------------------------ what is still there
+-- the number that a row's parent number becomes when the row goes: no row has it, and it is not `noRow`
+abbrev pub goneRow : ℕ
+goneRow = 65534
+
+-- those of the brothers below row p that are still there, each with what is left below it
+unfoldable pub kept : List ℕ → ℕ → Forest ℕ → Forest ℕ
+kept up p bare = bare
+kept up p (tree i k r) = cond (eqb (getD up i 0) p) (tree i (kept up i k) (kept up p r)) (kept up p r)
+
+-- the same as a forest of what the rows bear
+unfoldable pub left : List ℕ → List ℕ → List ℕ → ℕ → Forest ℕ → Forest Tag
+left code mark up p F = mapT (tagAt code mark) (kept up p F)
+
+-- what is left below row u
+abbrev pub leftBelow : List ℕ → List ℕ → List ℕ → List ℕ → ℕ → Forest Tag
+leftBelow code mark span up u = left code mark up u (below span u)
+
+-- the tree that is left of n rows
+abbrev pub keptTree : List ℕ → List ℕ → List ℕ → List ℕ → ℕ → Forest Tag
+keptTree code mark span up n = left code mark up noRow (shape span n)
+
+-- ------------------------------------------------------------------ the folding test
+-- "u's marks are among v's", by the numbers of the marks
+unfoldable pub marksFit : ℕ → ℕ → Bool
+marksFit s t = is (decBoth (decMark (eqb (s % 2) 1) (eqb (t % 2) 1)) (decMark (ltb 1 s) (ltb 1 t)))
+
+-- row u folds onto row v
+abbrev pub OntoRow : List ℕ → List ℕ → List ℕ → List ℕ → ℕ → ℕ → Type 0
+OntoRow code mark span up u v = Onto (tagAt code mark u) (leftBelow code mark span up u) (tagAt code mark v) (leftBelow code mark span up v)
+
+unfoldable pub ontoRow : List ℕ → List ℕ → List ℕ → List ℕ → ℕ → ℕ → Bool
+ontoRow code mark span up u v = is (decOnto (tagAt code mark u) (leftBelow code mark span up u) (tagAt code mark v) (leftBelow code mark span up v))
+
+-- the number of levels of a forest
+unfoldable pub height : {A : Type 0} → Forest A → ℕ
+height bare = 0
+height (tree a k r) = max (suc (height k)) (height r)
+
+-- row u and all below it stand in the four lists, laid out in image order
+pub record Stands (code mark span up : List ℕ) (u : ℕ) : Type 0 where
+  pub some : 1 ≤ getD span u 0
+  pub codes : u + getD span u 0 ≤ length code
+  pub marks : u + getD span u 0 ≤ length mark
+  pub spans : u + getD span u 0 ≤ length span
+  pub ups : u + getD span u 0 ≤ length up
+  pub few : u + getD span u 0 ≤ 256
+  pub held : Holds span (suc u) (u + getD span u 0) (below span u)
+
+-- ------------------------------------------------------------------ folding to the end
+-- no two of these brothers fold
+abbrev pub NoneFold : Forest Tag → Type 0
+NoneFold bare = Unit {0}
+NoneFold (tree a k r) = NoneFold r × (¬ Any (λ b j. Onto a k b j) r) × (¬ Any (λ b j. Onto b j a k) r)
+
+-- row j, a child of row p, goes
+pub record Goes (span up up′ : List ℕ) (p j : ℕ) : Type 0 where
+  pub lower : p < j
+  pub inside : j < p + getD span p 0
+  pub child : getD up j 0 ≡ p
+  pub away : getD up′ j 0 ≡ goneRow
+
+-- nothing has changed but that some children of row p have gone
+abbrev pub Only : List ℕ → ℕ → List ℕ → List ℕ → Type 0
+Only span p up up′ = (j : ℕ) → (getD up′ j 0 ≡ getD up j 0) ⊎ Goes span up up′ p j
+
+-- the children of row p are folded to the end: what is left below p folds onto what was there and back, no two children are left that fold,
+-- and nothing has changed but that some children of p have gone
+pub record ChildrenFolded (code mark span up : List ℕ) (p : ℕ) (up′ : List ℕ) : Type 0 where
+  pub to : Folds (leftBelow code mark span up p) (leftBelow code mark span up′ p)
+  pub from : Folds (leftBelow code mark span up′ p) (leftBelow code mark span up p)
+  pub apart : NoneFold (leftBelow code mark span up′ p)
+  pub only : Only span p up up′
+
+-- n rows that are a tree, or no rows; nothing is asked of the numbers of children, nor of labels and marks
+pub record Whole (code mark span up : List ℕ) (n : ℕ) : Type 0 where
+  pub few : n ≤ 256
+  pub codes : n ≤ length code
+  pub marks : n ≤ length mark
+  pub spans : n ≤ length span
+  pub ups : n ≤ length up
+  pub laid : Holds span 0 n (shape span n)
+  pub hung : Hung up noRow (shape span n)
+  pub single : width (shape span n) ≤ 1
+
+-- the rows are folded to the end: what is left is the minimal tree up to the order of brothers, and rows below the top have gone, no more
+pub record RowsFolded (code mark span up : List ℕ) (n : ℕ) (up′ : List ℕ) : Type 0 where
+  pub least : ordered (keptTree code mark span up′ n) ≡ ordered (minimal (treeRows code mark span n))
+  pub only : (j : ℕ) → (getD up′ j 0 ≡ getD up j 0) ⊎ ((0 < j) × (j < n) × (getD up′ j 0 ≡ goneRow))
+
+-- ------------------------------------------------------------------ the rows that are left, one after the other
+-- the rows of a tree of which some have gone, but not the top
+pub record Remains (code mark span up : List ℕ) (n : ℕ) : Type 0 where
+  pub kids : List ℕ
+  pub was : List ℕ
+  pub rows : Rows code mark kids span was n
+  pub ups : n ≤ length up
+  pub only : (j : ℕ) → (getD up j 0 ≡ getD was j 0) ⊎ ((0 < j) × (j < n) × (getD up j 0 ≡ goneRow))
+
+-- the new number of row i's parent, when row p has moved to row `getD moved p 0`
+unfoldable pub parentMoved : List ℕ → List ℕ → ℕ → ℕ
+parentMoved up moved i = cond (eqb (getD up i 0) noRow) noRow (getD moved (getD up i 0) 0)
+
+-- row i, whose parent is none or a row, can be put at place j
+pub record Movable (code mark up : List ℕ) (i : ℕ) (parent moved : List ℕ) (j : ℕ) : Type 0 where
+  pub codes : i < length code
+  pub marks : i < length mark
+  pub ups : i < length up
+  pub parents : j < length parent
+  pub moves : i < length moved
+  pub front : j ≤ i
+  pub few : i < 256
+  pub above : (getD up i 0 ≡ noRow) ⊎ (getD up i 0 < length moved)
+
+-- row i is put at place j
+pub record RowMoved (code mark up : List ℕ) (i : ℕ) (parent moved : List ℕ) (j : ℕ) (code′ mark′ parent′ moved′ : List ℕ) : Type 0 where
+  pub codes : code′ ≡ set code j (getD code i 0)
+  pub marks : mark′ ≡ set mark j (getD mark i 0)
+  pub parents : parent′ ≡ set parent j (parentMoved up moved i)
+  pub moves : moved′ ≡ set moved i j
+
+-- the first r rows are the table of the tree that was left
+pub record RowsKept (code mark span up : List ℕ) (n : ℕ) (code′ mark′ parent : List ℕ) (r : ℕ) : Type 0 where
+  pub table : TreeTable parent code′ mark′ r
+  pub same : tableTree parent code′ mark′ r ≡ keptTree code mark span up n
+  pub count : r ≡ size (keptTree code mark span up n)

@@ -1,0 +1,207 @@
+// Folding over rows in image order: the folding test, and folding to the end.
+// A row goes, with all below it, when the number of its parent becomes GONE.
+ghost use mathlib.Core.Path.{_≡_};
+ghost use Prim.Native.Nat.{_+_, _<_, _≤_};
+ghost use lib.ListN.{length, getD};
+ghost use lib.Dec.{eqb};
+ghost use mathlib.Core.Logic.{_⊎_};
+ghost use mathlib.Core.Bool.{not, _&&_};
+ghost use Rattle.meaning.specs.Basics.{is};
+ghost use Rattle.meaning.specs.Folding.{decTag};
+ghost use Rattle.rows.specs.Rows.{tagAt, noRow};
+ghost use Rattle.fold.specs.Kept.{marksFit, ontoRow, Stands, ChildrenFolded, Whole, RowsFolded, parentMoved, Movable, RowMoved, Remains, RowsKept};
+
+const GONE: u16 = 65534;
+
+const NO_ROW: u16 = 65535;
+
+fn wide(x: u16) -> usize
+    ensures { λ r. ⌜ r ≡ x ⌝ }
+{
+    x as usize
+}
+
+// "u's marks are among v's"
+fn marks_fit(mark: &[u8], u: usize, v: usize) -> bool
+    requires { ⌜ (u < length (now mark)) × (v < length (now mark)) ⌝ }
+    ensures { λ r. ⌜ r ≡ marksFit (getD (now (mark .entry)) u 0) (getD (now (mark .entry)) v 0) ⌝ }
+{
+    let s = mark[u];
+    let t = mark[v];
+    if t % 2 < s % 2 {
+        return false;
+    }
+    if s < 2 {
+        return true;
+    }
+    1 < t
+}
+
+// "u's label is a wildcard or equals v's, u's marks are among v's"
+fn fits(code: &[u32], mark: &[u8], u: usize, v: usize) -> bool
+    requires { ⌜ (u < length (now code)) × (v < length (now code)) × (u < length (now mark)) × (v < length (now mark)) ⌝ }
+    ensures { λ r. ⌜ r ≡ is (decTag (tagAt (now (code .entry)) (now (mark .entry)) u) (tagAt (now (code .entry)) (now (mark .entry)) v)) ⌝ }
+{
+    if !marks_fit(mark, u, v) {
+        return false;
+    }
+    let x = code[u];
+    let y = code[v];
+    if x == 0 {
+        return true;
+    }
+    x == y
+}
+
+// The number of rows that row u and all below it take.
+fn span_at(span: &[u16], u: usize) -> usize
+    requires { ⌜ u < length (now span) ⌝ }
+    ensures { λ r. ⌜ r ≡ getD (now (span .entry)) u 0 ⌝ }
+{
+    wide(span[u])
+}
+
+// Row c is a child of row p that is still there.
+fn is_child(up: &[u16], p: usize, c: usize) -> bool
+    requires { ⌜ c < length (now up) ⌝ }
+    ensures { λ r. ⌜ r ≡ eqb (getD (now (up .entry)) c 0) p ⌝ }
+{
+    wide(up[c]) == p
+}
+
+// "every child of u folds onto some child of v"
+pub fn folds_onto(code: &[u32], mark: &[u8], span: &[u16], up: &[u16], u: usize, v: usize) -> bool
+    requires { ⌜ Stands (now code) (now mark) (now span) (now up) u × Stands (now code) (now mark) (now span) (now up) v ⌝ }
+    ensures { λ r. ⌜ r ≡ ontoRow (now (code .entry)) (now (mark .entry)) (now (span .entry)) (now (up .entry)) u v ⌝ }
+{
+    if !fits(code, mark, u, v) {
+        return false;
+    }
+    let u_end = u + span_at(span, u);
+    let v_end = v + span_at(span, v);
+    let mut a = u + 1;
+    'child: while a < u_end {
+        if is_child(up, u, a) {
+            let mut b = v + 1;
+            while b < v_end {
+                if is_child(up, v, b) {
+                    if folds_onto(code, mark, span, up, a, b) {
+                        a += span_at(span, a);
+                        continue 'child;
+                    }
+                }
+                b += span_at(span, b);
+            }
+            return false;
+        }
+        a += span_at(span, a);
+    }
+    true
+}
+
+// Row b is a child of row p that is still there, and not row a.
+fn is_brother(up: &[u16], p: usize, a: usize, b: usize) -> bool
+    requires { ⌜ b < length (now up) ⌝ }
+    ensures { λ r. ⌜ r ≡ (not (eqb a b) && eqb (getD (now (up .entry)) b 0) p) ⌝ }
+{
+    if a == b {
+        return false;
+    }
+    is_child(up, p, b)
+}
+
+// Each child of row p that folds onto another one goes: the search is left at the first foldable pair and goes on behind the one that went.
+pub fn fold_children(code: &[u32], mark: &[u8], span: &[u16], up: &mut [u16], p: usize)
+    requires { ⌜ Stands (now code) (now mark) (now span) (now up) p ⌝ }
+    ensures { λ _. ⌜ ChildrenFolded (now (code .entry)) (now (mark .entry)) (now (span .entry)) (now (up .entry)) p (now (up .exit)) ⌝ }
+{
+    let end = p + span_at(span, p);
+    let mut a = p + 1;
+    'search: while a < end {
+        if is_child(up, p, a) {
+            let mut b = p + 1;
+            while b < end {
+                if is_brother(up, p, a, b) {
+                    if folds_onto(code, mark, span, up, a, b) {
+                        let next = a + span_at(span, a);
+                        up[a] = GONE;
+                        a = next;
+                        continue 'search;
+                    }
+                }
+                b += span_at(span, b);
+            }
+        }
+        a += span_at(span, a);
+    }
+}
+
+// "Folding stops when no two brothers anywhere in the tree are left that fold": from the last row to the first.
+pub fn fold_rows(code: &[u32], mark: &[u8], span: &[u16], up: &mut [u16], n: usize)
+    requires { ⌜ Whole (now code) (now mark) (now span) (now up) n ⌝ }
+    ensures { λ _. ⌜ RowsFolded (now (code .entry)) (now (mark .entry)) (now (span .entry)) (now (up .entry)) n (now (up .exit)) ⌝ }
+{
+    let mut p = n;
+    while 0 < p {
+        p -= 1;
+        fold_children(code, mark, span, up, p);
+    }
+}
+
+// The new number of row i's parent.
+fn parent_moved(up: &[u16], moved: &[u16], i: usize) -> u16
+    requires { ⌜ (i < length (now up)) × ((getD (now up) i 0 ≡ noRow) ⊎ (getD (now up) i 0 < length (now moved))) ⌝ }
+    ensures { λ r. ⌜ r ≡ parentMoved (now (up .entry)) (now (moved .entry)) i ⌝ }
+{
+    let p = up[i];
+    if p == NO_ROW {
+        return NO_ROW;
+    }
+    moved[wide(p)]
+}
+
+// Row i is put at place j.
+fn move_row(
+    code: &mut [u32],
+    mark: &mut [u8],
+    up: &[u16],
+    i: usize,
+    parent: &mut [u16],
+    moved: &mut [u16],
+    j: usize,
+)
+    requires { ⌜ Movable (now code) (now mark) (now up) i (now parent) (now moved) j ⌝ }
+    ensures { λ _. ⌜ RowMoved (now (code .entry)) (now (mark .entry)) (now (up .entry)) i (now (parent .entry)) (now (moved .entry)) j (now (code .exit)) (now (mark .exit)) (now (parent .exit)) (now (moved .exit)) ⌝ }
+{
+    code[j] = code[i];
+    mark[j] = mark[i];
+    parent[j] = parent_moved(up, moved, i);
+    moved[i] = j as u16;
+}
+
+// The rows that are still there, in their order, are put to the front, each with the new number of its parent. Returns how many there are.
+pub fn keep_rows(
+    code: &mut [u32],
+    mark: &mut [u8],
+    span: &[u16],
+    up: &[u16],
+    n: usize,
+    parent: &mut [u16],
+    moved: &mut [u16],
+) -> usize
+    requires { ⌜ Remains (now code) (now mark) (now span) (now up) n × (n ≤ length (now parent)) × (n ≤ length (now moved)) ⌝ }
+    ensures { λ r. ⌜ RowsKept (now (code .entry)) (now (mark .entry)) (now (span .entry)) (now (up .entry)) n (now (code .exit)) (now (mark .exit)) (now (parent .exit)) r ⌝ }
+{
+    let mut i: usize = 0;
+    let mut j: usize = 0;
+    while i < n {
+        if up[i] == GONE {
+            i += span_at(span, i);
+            continue;
+        }
+        move_row(code, mark, up, i, parent, moved, j);
+        j += 1;
+        i += 1;
+    }
+    j
+}
