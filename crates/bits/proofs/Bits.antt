@@ -1,0 +1,240 @@
+-- Laws of bits: what an or, an and, a shift and a store do to the bits of a byte and of a row.
+use mathlib.Core.Path.{_≡_, refl, sym, ap, _∙_}
+use mathlib.Core.List.{List}
+use mathlib.Core.Bool.{Bool, true, false, _||_, _&&_}
+use Prim.Native.Nat.{ℕ, zero, suc, _+_, _-_, _*_, _/_, _%_, _^_, _≤_, _<_}
+use native.Mathlib.Omega.{arith}
+use native.Mathlib.Nat.{div-eq-of-lt, one-mul, zero-div}
+use native.Mathlib.Decide.{ℕ-discrete, decLt}
+use lib.ListN.{length, getD, set, length-set}
+use lib.Seq.{getD-set-same, getD-set-other}
+use lib.Dec.{eqb, lit<}
+use lib.Pow.{pow-lt, pow-add, shl-shr, shl-exact, shr-shr}
+use lib.Bits.{bitAnd, bitOr, and-mask, and-shr, and-mod, or-shr, or-mod, or-zero-r}
+use Rattle.meaning.specs.Matching.{bitAt}
+use Rattle.bits.specs.Bits.{bitOf, BitPut, OnlyRow, BitSet, Packed, Met, Cleared}
+
+-- ------------------------------------------------------------------ bits of a byte
+-- (n >> ..) & 1
+pub and-one : (n : ℕ) → bitAnd n 1 ≡ n % 2
+and-one n = and-mask n 1
+
+-- 1 << k in a byte
+one-shl : (k : ℕ) → k < 8 → 1 * 2 ^ k % 256 ≡ 2 ^ k
+one-shl k h = shl-exact 1 k 8 (lit< tt) (omega arith) ∙ one-mul (2 ^ k)
+
+pow-same : (k : ℕ) → 2 ^ k / 2 ^ k % 2 ≡ 1
+pow-same k = ap (λ (n : ℕ). n / 2 ^ k % 2) (sym (one-mul (2 ^ k))) ∙ ap (λ (n : ℕ). n % 2) (shl-shr 1 k)
+
+pow-other : (k j : ℕ) → (j ≡ k → ⊥) → 2 ^ k / 2 ^ j % 2 ≡ 0
+pow-other k j ne = go (decLt k j)
+  where
+    even : (m : ℕ) → 2 ^ (m + 1) % 2 ≡ 0
+    even m = rw (pow-add 2 m 1) (let z : 2 ^ m * 2 % 2 ≡ 0 = omega arith in z)
+
+    go : Dec (k < j) → 2 ^ k / 2 ^ j % 2 ≡ 0
+    go (yes l) = rw (div-eq-of-lt (pow-lt l))
+    go (no l) =
+        let m = k - j - 1 in
+        let q : k ≡ m + 1 + j = omega arith in
+        ap (λ (n : ℕ). 2 ^ n / 2 ^ j % 2) q
+        ∙ ap (λ (n : ℕ). n / 2 ^ j % 2) (pow-add 2 (m + 1) j)
+        ∙ ap (λ (n : ℕ). n % 2) (shl-shr (2 ^ (m + 1)) j)
+        ∙ even m
+
+or-bit : (x y j : ℕ) → bitOr x y / 2 ^ j % 2 ≡ bitOr (x / 2 ^ j % 2) (y / 2 ^ j % 2)
+or-bit x y j = ap (λ (n : ℕ). n % 2) (or-shr x y j) ∙ or-mod (x / 2 ^ j) (y / 2 ^ j) 1
+
+and-bit : (x y j : ℕ) → bitAnd x y / 2 ^ j % 2 ≡ bitAnd (x / 2 ^ j % 2) (y / 2 ^ j % 2)
+and-bit x y j = ap (λ (n : ℕ). n % 2) (and-shr x y j) ∙ and-mod (x / 2 ^ j) (y / 2 ^ j) 1
+
+or-one : (y : ℕ) → y < 2 → bitOr y 1 ≡ 1
+or-one zero h = refl
+or-one (suc zero) h = refl
+or-one (suc (suc y)) h = absurd (omega arith)
+
+-- b | (1 << k): bit k is set, and every other bit is as it was
+set-here : (b k : ℕ) → bitOf (bitOr b (2 ^ k)) k ≡ true
+unfolding bitOf
+set-here b k =
+    ap (λ (n : ℕ). eqb n 1) (or-bit b (2 ^ k) k ∙ ap (bitOr (b / 2 ^ k % 2)) (pow-same k) ∙ or-one (b / 2 ^ k % 2) (omega arith))
+
+set-other : (b k j : ℕ) → (j ≡ k → ⊥) → bitOf (bitOr b (2 ^ k)) j ≡ bitOf b j
+unfolding bitOf
+set-other b k j ne =
+    ap (λ (n : ℕ). eqb n 1) (or-bit b (2 ^ k) j ∙ ap (bitOr (b / 2 ^ j % 2)) (pow-other k j ne) ∙ or-zero-r (b / 2 ^ j % 2))
+
+pub put-on : (b k : ℕ) (on : Bool) → k < 8 → on ≡ true → BitPut b k on (bitOr b (1 * 2 ^ k % 256))
+put-on b k on l e = rw (one-shl k l, e) (record { here = set-here b k; other = λ j ne. set-other b k j ne })
+
+pub put-off : (b k : ℕ) (on : Bool) → on ≡ false → BitPut b k on b
+put-off b k on e = rw e (record { here = refl; other = λ j ne. refl })
+
+-- a & b has the bits that both have
+and-of : (a b k : ℕ) → bitOf (bitAnd a b) k ≡ (bitOf a k && bitOf b k)
+unfolding bitOf
+and-of a b k = ap (λ (n : ℕ). eqb n 1) (and-bit a b k) ∙ go (a / 2 ^ k % 2) (b / 2 ^ k % 2) (omega arith) (omega arith)
+  where
+    go : (x y : ℕ) → x < 2 → y < 2 → eqb (bitAnd x y) 1 ≡ (eqb x 1 && eqb y 1)
+    go zero zero l m = refl
+    go zero (suc zero) l m = refl
+    go zero (suc (suc y)) l m = absurd (omega arith)
+    go (suc zero) zero l m = refl
+    go (suc zero) (suc zero) l m = refl
+    go (suc zero) (suc (suc y)) l m = absurd (omega arith)
+    go (suc (suc x)) y l m = absurd (omega arith)
+
+-- a byte without bits
+pub zero-bit : (k : ℕ) → bitOf 0 k ≡ false
+unfolding bitOf
+zero-bit k = rw (zero-div (2 ^ k))
+
+-- a byte filled from its lowest bit up
+pub packed-none : (g : ℕ → Bool) → Packed g 0 0
+packed-none g = record { low = λ j l. absurd (omega arith); high = λ j l. zero-bit j }
+
+pub packed-more : (g : ℕ → Bool) (k b r : ℕ) → Packed g k b → BitPut b k (g k) r → Packed g (k + 1) r
+packed-more g k b r t p = record { low = λ j l. go j l (ℕ-discrete j k); high = λ j l. p .other j (λ e. omega arith) ∙ t .high j (omega arith) }
+  where
+    or-false : (x y : Bool) → y ≡ false → (x || y) ≡ x
+    or-false true y e = refl
+    or-false false y e = e
+
+    go : (j : ℕ) → j < k + 1 → Dec (j ≡ k) → bitOf r j ≡ g j
+    go j l (yes e) = rw e (p .here ∙ or-false (g k) (bitOf b k) (t .high k (omega arith)))
+    go j l (no e) = p .other j e ∙ t .low j (omega arith)
+
+-- the byte in which all eight bits are set
+pub all-bits : (k : ℕ) → k < 8 → bitOf 255 k ≡ true
+unfolding bitOf
+all-bits zero l = refl
+all-bits (suc zero) l = refl
+all-bits (suc (suc zero)) l = refl
+all-bits (suc (suc (suc zero))) l = refl
+all-bits (suc (suc (suc (suc zero)))) l = refl
+all-bits (suc (suc (suc (suc (suc zero))))) l = refl
+all-bits (suc (suc (suc (suc (suc (suc zero)))))) l = refl
+all-bits (suc (suc (suc (suc (suc (suc (suc zero))))))) l = refl
+all-bits (suc (suc (suc (suc (suc (suc (suc (suc k)))))))) l = absurd (omega arith)
+
+-- the lowest bit of a byte, and the others, one place lower after a shift
+pub low-bit : (b : ℕ) → bitOf b 0 ≡ eqb (b % 2) 1
+unfolding bitOf
+low-bit b = let z : b / 1 ≡ b = omega arith in rw z
+
+pub half-bit : (b k : ℕ) → bitOf (b / 2) k ≡ bitOf b (suc k)
+unfolding bitOf
+half-bit b k = let z : 1 + k ≡ suc k = omega arith in ap (λ (n : ℕ). eqb (n % 2) 1) (shr-shr b 1 k ∙ ap (λ (n : ℕ). b / 2 ^ n) z)
+
+-- ------------------------------------------------------------------ bits of a row
+-- bit v of a row is a bit of one of its bytes
+pub bit-byte : (w : List ℕ) (u v : ℕ) → bitAt w u v ≡ bitOf (getD w (128 * u + v / 8) 0) (v % 8)
+unfolding bitAt bitOf
+bit-byte w u v = refl
+
+pub byte-bit : (w : List ℕ) (u i k : ℕ) → k < 8 → bitAt w u (8 * i + k) ≡ bitOf (getD w (128 * u + i) 0) k
+byte-bit w u i k l =
+    let a : (8 * i + k) / 8 ≡ i = omega arith in let b : (8 * i + k) % 8 ≡ k = omega arith in rw (bit-byte w u (8 * i + k), a, b)
+
+-- a row whose bytes are those of another row has its bits
+pub same-bits : (w b : List ℕ) (u v : ℕ) → getD b (128 * u + v / 8) 0 ≡ getD w (128 * u + v / 8) 0 → bitAt b u v ≡ bitAt w u v
+same-bits w b u v e = bit-byte b u v ∙ ap (λ (n : ℕ). bitOf n (v % 8)) e ∙ sym (bit-byte w u v)
+
+-- what changes only row u changes no bit of another row
+pub other-row : (w b : List ℕ) (u y x : ℕ) → OnlyRow w u b → x < 1024 → (y ≡ u → ⊥) → bitAt b y x ≡ bitAt w y x
+other-row w b u y x o l ne = same-bits w b y x (o .elsewhere (128 * y + x / 8) (λ e. ne (omega arith)))
+
+pub only-refl : (w : List ℕ) (u : ℕ) → OnlyRow w u w
+only-refl w u = record { same = refl; elsewhere = λ i ne. refl }
+
+pub only-then : (w b d : List ℕ) (u : ℕ) → OnlyRow w u b → OnlyRow b u d → OnlyRow w u d
+only-then w b d u x y = record { same = y .same ∙ x .same; elsewhere = λ i ne. y .elsewhere i ne ∙ x .elsewhere i ne }
+
+-- a byte stored in row u
+module _ (w : List ℕ) (u i o : ℕ) (li : i < 128) (lw : 128 * u + 128 ≤ length w) where
+  pub store-only : OnlyRow w u (set w (128 * u + i) o)
+  store-only =
+      record { same = length-set w (128 * u + i) o; elsewhere = λ j ne. getD-set-other w (128 * u + i) j o 0 (λ e. ne (omega arith)) }
+
+  pub store-here : (v : ℕ) → v / 8 ≡ i → bitAt (set w (128 * u + i) o) u v ≡ bitOf o (v % 8)
+  store-here v e = rw (bit-byte (set w (128 * u + i) o) u v, e, getD-set-same w (128 * u + i) o 0 (omega arith))
+
+  pub store-other : (v : ℕ) → (v / 8 ≡ i → ⊥) → bitAt (set w (128 * u + i) o) u v ≡ bitAt w u v
+  store-other v ne = same-bits w (set w (128 * u + i) o) u v (getD-set-other w (128 * u + i) (128 * u + v / 8) o 0 (λ e. ne (omega arith)))
+
+pub bit-set : (w : List ℕ) (u v : ℕ) → v < 1024 → 128 * u + 128 ≤ length w
+    → BitSet w u v (set w (128 * u + v / 8) (bitOr (getD w (128 * u + v / 8) 0) (1 * 2 ^ (v % 8) % 256)))
+bit-set w u v lv lw = rw (one-shl (v % 8) (omega arith)) (go (bitOr (getD w (128 * u + v / 8) 0) (2 ^ (v % 8))) refl)
+  where
+    go : (o : ℕ) → o ≡ bitOr (getD w (128 * u + v / 8) 0) (2 ^ (v % 8)) → BitSet w u v (set w (128 * u + v / 8) o)
+    go o e =
+        record {
+          only = store-only w u (v / 8) o (omega arith) lw;
+          here = store-here w u (v / 8) o (omega arith) lw v refl ∙ rw e (set-here (getD w (128 * u + v / 8) 0) (v % 8));
+          other = λ x lx ne. other x ne (ℕ-discrete (x / 8) (v / 8));
+        }
+      where
+        other : (x : ℕ) → (x ≡ v → ⊥) → Dec (x / 8 ≡ v / 8) → bitAt (set w (128 * u + v / 8) o) u x ≡ bitAt w u x
+        other x ne (yes q) =
+            rw (store-here w u (v / 8) o (omega arith) lw x q, bit-byte w u x, q, e)
+            (set-other (getD w (128 * u + v / 8) 0) (v % 8) (x % 8) (λ r. ne (omega arith)))
+        other x ne (no q) = store-other w u (v / 8) o (omega arith) lw x q
+
+-- ------------------------------------------------------------------ whole rows
+pub met-none : (w : List ℕ) (u : ℕ) (h : List ℕ) → Met w u h 0 w
+met-none w u h = record { only = only-refl w u; both = λ v l. absurd (omega arith); behind = λ v l m. refl }
+
+pub met-more : (w : List ℕ) (u : ℕ) (h b : List ℕ) (i o : ℕ) → i < 128 → 128 * u + 128 ≤ length w
+    → ((k : ℕ) → k < 8 → bitOf o k ≡ (bitOf (getD b (128 * u + i) 0) k && eqb (getD h (8 * i + k) 0) 1)) → Met w u h (8 * i) b
+    → Met w u h (8 * (i + 1)) (set b (128 * u + i) o)
+met-more w u h b i o l lw f m = go (rw (m .only .same) lw)
+  where
+    go : 128 * u + 128 ≤ length b → Met w u h (8 * (i + 1)) (set b (128 * u + i) o)
+    go lb =
+        record {
+          only = only-then w b (set b (128 * u + i) o) u (m .only) (store-only b u i o l lb);
+          both = λ v lv. both v lv (ℕ-discrete (v / 8) i);
+          behind = λ v lv lv′. store-other b u i o l lb v (λ q. omega arith) ∙ m .behind v (omega arith) lv′;
+        }
+      where
+        both : (v : ℕ) → v < 8 * (i + 1) → Dec (v / 8 ≡ i) → bitAt (set b (128 * u + i) o) u v ≡ (bitAt w u v && eqb (getD h v 0) 1)
+        both v lv (no q) = store-other b u i o l lb v q ∙ m .both v (omega arith)
+        both v lv (yes q) =
+            let z : 8 * i + v % 8 ≡ v = omega arith in
+            let bv : bitAt w u v ≡ bitOf (getD b (128 * u + i) 0) (v % 8) = sym (m .behind v (omega arith) (omega arith)) ∙ rw (bit-byte b u v, q) in
+            store-here b u i o l lb v q ∙ rw bv (rw z at (f (v % 8) (omega arith)))
+
+-- the bits of a byte that have their flags
+pub flagged-none : (b : ℕ) (g : ℕ → Bool) → b ≡ 0 → (k : ℕ) → k < 8 → bitOf 0 k ≡ (bitOf b k && g k)
+flagged-none b g e k l = rw (e, zero-bit k)
+
+pub flagged-some : (b f : ℕ) (g : ℕ → Bool) → Packed g 8 f → (k : ℕ) → k < 8 → bitOf (bitAnd b f) k ≡ (bitOf b k && g k)
+flagged-some b f g p k l = rw (← p .low k l) (and-of b f k)
+
+-- bytes that are 0, one more of them
+pub more-zero : (w : List ℕ) (u e : ℕ) → ((i : ℕ) → i < e → getD w (128 * u + i) 0 ≡ 0) → getD w (128 * u + e) 0 ≡ 0
+    → (i : ℕ) → i < e + 1 → getD w (128 * u + i) 0 ≡ 0
+more-zero w u e h z i l = go (ℕ-discrete i e)
+  where
+    go : Dec (i ≡ e) → getD w (128 * u + i) 0 ≡ 0
+    go (yes q) = rw q z
+    go (no q) = h i (omega arith)
+
+-- bytes that are 0 have no bits
+pub no-bits : (w : List ℕ) (u e : ℕ) → ((i : ℕ) → i < e → getD w (128 * u + i) 0 ≡ 0) → (v : ℕ) → v < 8 * e → bitAt w u v ≡ false
+no-bits w u e h v l = rw (bit-byte w u v, h (v / 8) (omega arith)) (zero-bit (v % 8))
+
+pub clear-none : (w : List ℕ) → Cleared w 0 w
+clear-none w = record { same = refl; clear = λ i l. absurd (omega arith); later = λ i l. refl }
+
+pub clear-more : (w b : List ℕ) (e : ℕ) → e < length w → Cleared w e b → Cleared w (e + 1) (set b e 0)
+clear-more w b e l h =
+    record {
+      same = length-set b e 0 ∙ h .same;
+      clear = λ i li. go i li (ℕ-discrete i e);
+      later = λ i li. getD-set-other b e i 0 0 (λ q. omega arith) ∙ h .later i (omega arith);
+    }
+  where
+    go : (i : ℕ) → i < e + 1 → Dec (i ≡ e) → getD (set b e 0) i 0 ≡ 0
+    go i li (yes q) = rw q (getD-set-same b e 0 0 (rw (h .same) l))
+    go i li (no q) = getD-set-other b e i 0 0 q ∙ h .clear i (omega arith)

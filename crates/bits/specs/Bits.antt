@@ -1,0 +1,46 @@
+-- Rows of bits in lent bytes: row u is the 128 bytes from byte 128u on, and its bit v is bit v mod 8 of its byte v div 8 (01, Documents).
+-- `bitAt` of meaning reads them; here is what the functions on rows leave behind.
+use mathlib.Core.Path.{_≡_}
+use mathlib.Core.List.{List}
+use mathlib.Core.Bool.{Bool, true, false, _||_, _&&_}
+use Prim.Native.Nat.{ℕ, _/_, _%_, _^_, _≤_, _<_}
+use lib.ListN.{length, getD}
+use lib.Dec.{eqb}
+use Rattle.meaning.specs.Matching.{bitAt}
+
+-- bit k of a byte, the lowest being 0
+unfoldable pub bitOf : ℕ → ℕ → Bool
+bitOf b k = eqb (b / 2 ^ k % 2) 1
+
+-- r is b, with bit k set if `on` says so
+pub record BitPut (b k : ℕ) (on : Bool) (r : ℕ) : Type 0 where
+  pub here : bitOf r k ≡ (on || bitOf b k)
+  pub other : (j : ℕ) → (j ≡ k → ⊥) → bitOf r j ≡ bitOf b j
+
+-- no byte outside row u changed
+pub record OnlyRow (w : List ℕ) (u : ℕ) (b : List ℕ) : Type 0 where
+  pub same : length b ≡ length w
+  pub elsewhere : (i : ℕ) → (i / 128 ≡ u → ⊥) → getD b i 0 ≡ getD w i 0
+
+-- b is w with bit v of row u set
+pub record BitSet (w : List ℕ) (u v : ℕ) (b : List ℕ) : Type 0 where
+  pub only : OnlyRow w u b
+  pub here : bitAt b u v ≡ true
+  pub other : (x : ℕ) → x < 1024 → (x ≡ v → ⊥) → bitAt b u x ≡ bitAt w u x
+
+-- the byte b has the bits that g gives, up to bit k, and no others
+pub record Packed (g : ℕ → Bool) (k b : ℕ) : Type 0 where
+  pub low : (j : ℕ) → j < k → bitOf b j ≡ g j
+  pub high : (j : ℕ) → k ≤ j → bitOf b j ≡ false
+
+-- row u of b has the bits of row u of w whose flags are 1, up to bit e; behind it row u is as it was
+pub record Met (w : List ℕ) (u : ℕ) (flags : List ℕ) (e : ℕ) (b : List ℕ) : Type 0 where
+  pub only : OnlyRow w u b
+  pub both : (v : ℕ) → v < e → bitAt b u v ≡ (bitAt w u v && eqb (getD flags v 0) 1)
+  pub behind : (v : ℕ) → e ≤ v → v < 1024 → bitAt b u v ≡ bitAt w u v
+
+-- the first e bytes are clear, the later ones are as they were
+pub record Cleared (w : List ℕ) (e : ℕ) (b : List ℕ) : Type 0 where
+  pub same : length b ≡ length w
+  pub clear : (i : ℕ) → i < e → getD b i 0 ≡ 0
+  pub later : (i : ℕ) → e ≤ i → getD b i 0 ≡ getD w i 0

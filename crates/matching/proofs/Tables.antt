@@ -1,0 +1,162 @@
+-- Laws of document tables: what the check of a table says of each row, and the document of a good table read by its two lists.
+use mathlib.Core.Path.{_≡_, refl, sym, ap, _∙_}
+use mathlib.Core.Logic.{_↔_}
+use mathlib.Core.List.{List, [], _∷_}
+use mathlib.Core.Bool.{Bool, true, false, _&&_}
+use Prim.Native.Nat.{ℕ, zero, suc, _+_, _≤_, _<_}
+use native.Mathlib.Omega.{arith}
+use native.Mathlib.Numerals.{add-one}
+use lib.ListN.{length, getD, drop, drop-of-length-le}
+use lib.Seq.{drop-cons}
+use lib.Dec.{leb, eqb, ltb, leb·suc-suc}
+use borrow.Author.Tests.{leb-true, le-leb, lt-leb, eqb-true}
+use Rattle.meaning.specs.Number.{largestLabel}
+use Rattle.meaning.specs.Document.{DocRow, Child, docRow, labelOf, In}
+use Rattle.meaning.specs.Matching.{parentOk, rowsOk, goodTable, docOf}
+use Rattle.matching.specs.Table.{Parents}
+
+both : (a b : Bool) → (a && b) ≡ true → (a ≡ true) × (b ≡ true)
+both true b e = (refl, e)
+both false b e = let z : _≡_ {A = ℕ} 0 1 = cc in absurd (omega arith)
+
+-- ------------------------------------------------------------------ one row
+pub row-label : (x p l : ℕ) → 65535 < l → false ≡ (parentOk x p && leb l largestLabel)
+row-label x p l h = sym (rw (lt-leb l 65535 h) (no (parentOk x p)))
+  where
+    no : (t : Bool) → (t && false) ≡ false
+    no true = refl
+    no false = refl
+
+and-true : (t : Bool) → (t && true) ≡ t
+and-true true = refl
+and-true false = refl
+
+pub row-root : (x p l : ℕ) → l ≤ 65535 → x ≡ 0 → eqb p 0 ≡ (parentOk x p && leb l largestLabel)
+row-root x p l h e = sym (rw (le-leb l 65535 h, e) (and-true (eqb p 0)))
+
+pub row-lower : (x p l : ℕ) → l ≤ 65535 → (x ≡ 0 → ⊥) → ltb p x ≡ (parentOk x p && leb l largestLabel)
+row-lower zero p l h e = absurd (e refl)
+row-lower (suc x) p l h e = sym (rw (le-leb l 65535 h) (and-true (leb p x) ∙ sym (leb·suc-suc p x)))
+
+-- ------------------------------------------------------------------ the check from row x on
+rows-length : (n : ℕ) (ps ls : List ℕ) → rowsOk n ps ls ≡ true → length ls ≡ length ps
+unfolding rowsOk
+rows-length n [] [] e = refl
+rows-length n [] (l ∷ ls) e = let z : _≡_ {A = ℕ} 0 1 = cc in absurd (omega arith)
+rows-length n (p ∷ ps) [] e = let z : _≡_ {A = ℕ} 0 1 = cc in absurd (omega arith)
+rows-length n (p ∷ ps) (l ∷ ls) e = ap suc (rows-length (suc n) ps ls (both (parentOk n p && leb l largestLabel) (rowsOk (suc n) ps ls) e .1))
+
+module _ (P L : List ℕ) where
+  -- how far the check has come
+  abbrev pub Checked : ℕ → Type 0
+  Checked x = goodTable P L ≡ rowsOk x (drop x P) (drop x L)
+
+  pub table-none : length P ≡ 0 → false ≡ goodTable P L
+  unfolding goodTable
+  table-none e = sym (rw e)
+
+  pub table-many : 1024 < length P → false ≡ goodTable P L
+  unfolding goodTable
+  table-many h = sym (rw (lt-leb (length P) 1024 h) (no (leb 1 (length P))))
+    where
+      no : (t : Bool) → ((t && false) && rowsOk 0 P L) ≡ false
+      no true = refl
+      no false = refl
+
+  pub table-uneven : (length L ≡ length P → ⊥) → false ≡ goodTable P L
+  unfolding goodTable
+  table-uneven ne = go (leb 1 (length P) && leb (length P) 1024) (rowsOk 0 P L) refl
+    where
+      go : (t r : Bool) → rowsOk 0 P L ≡ r → false ≡ (t && r)
+      go true true e = absurd (ne (rows-length 0 P L e))
+      go true false e = refl
+      go false r e = refl
+
+  pub checked-none : (length P ≡ 0 → ⊥) → length P ≤ 1024 → Checked 0
+  unfolding goodTable
+  checked-none a b = let z : 1 ≤ length P = omega arith in rw (le-leb 1 (length P) z, le-leb (length P) 1024 b)
+
+  pub checked-more : (x : ℕ) → x < length P → x < length L → Checked x → (parentOk x (getD P x 0) && leb (getD L x 0) largestLabel) ≡ true → Checked (x + 1)
+  unfolding rowsOk
+  checked-more x lp ll h e = rw (add-one x) (h ∙ rw (drop-cons P x 0 lp, drop-cons L x 0 ll, e))
+
+  pub checked-bad : (x : ℕ) → x < length P → x < length L → Checked x → (parentOk x (getD P x 0) && leb (getD L x 0) largestLabel) ≡ false → false ≡ goodTable P L
+  unfolding rowsOk
+  checked-bad x lp ll h e = sym (h ∙ rw (drop-cons P x 0 lp, drop-cons L x 0 ll, e))
+
+  pub checked-all : (x : ℕ) → length P ≤ x → length L ≤ x → Checked x → true ≡ goodTable P L
+  unfolding rowsOk
+  checked-all x lp ll h = sym (h ∙ rw (drop-of-length-le P lp, drop-of-length-le L ll))
+
+-- ------------------------------------------------------------------ a good table
+doc-length : (P L : List ℕ) → length L ≡ length P → length (docOf P L) ≡ length P
+unfolding docOf
+doc-length [] L e = refl
+doc-length (p ∷ P) [] e = absurd (omega arith)
+doc-length (p ∷ P) (l ∷ L) e = let z = doc-length P L (omega arith) in omega arith
+
+doc-row : (P L : List ℕ) → length L ≡ length P → (x : ℕ) → docRow (docOf P L) x ≡ record { parent = getD P x 0; label = getD L x 0 }
+unfolding docOf
+doc-row [] [] e x = refl
+doc-row [] (l ∷ L) e x = absurd (omega arith)
+doc-row (p ∷ P) [] e x = absurd (omega arith)
+doc-row (p ∷ P) (l ∷ L) e zero = refl
+doc-row (p ∷ P) (l ∷ L) e (suc x) = doc-row P L (omega arith) x
+
+row-parent : (n p : ℕ) → parentOk n p ≡ true → (p ≤ n) × (0 < n → p < n)
+row-parent zero p e = let z = eqb-true p 0 e in (omega arith, λ l. absurd (omega arith))
+row-parent (suc n) p e = let z = leb-true p n e in (omega arith, λ l. omega arith)
+
+rows-parent : (n : ℕ) (P L : List ℕ) → rowsOk n P L ≡ true → (x : ℕ) → x < length P → parentOk (n + x) (getD P x 0) ≡ true
+unfolding rowsOk
+rows-parent n [] L e x l = absurd (omega arith)
+rows-parent n (p ∷ P) [] e x l = let z : _≡_ {A = ℕ} 0 1 = cc in absurd (omega arith)
+rows-parent n (p ∷ P) (l ∷ L) e zero h =
+    let y : n + 0 ≡ n = omega arith in
+    rw y (both (parentOk n p) (leb l largestLabel) (both (parentOk n p && leb l largestLabel) (rowsOk (suc n) P L) e .0) .0)
+rows-parent n (p ∷ P) (l ∷ L) e (suc x) h =
+    let y : n + suc x ≡ suc n + x = omega arith in
+    rw y (rows-parent (suc n) P L (both (parentOk n p && leb l largestLabel) (rowsOk (suc n) P L) e .1) x (omega arith))
+
+-- what a good table says: its length, and that every parent number is smaller than the node's own
+pub record Good (P L : List ℕ) : Type 0 where
+  pub some : 1 ≤ length P
+  pub few : length P ≤ 1024
+  pub labels : length L ≡ length P
+  pub upTo : (x : ℕ) → x < length P → getD P x 0 ≤ x
+  pub lower : (x : ℕ) → 0 < x → x < length P → getD P x 0 < x
+
+pub good-table : (P L : List ℕ) → goodTable P L ≡ true → Good P L
+unfolding goodTable
+good-table P L e =
+    let a = both (leb 1 (length P) && leb (length P) 1024) (rowsOk 0 P L) e in
+    let b = both (leb 1 (length P)) (leb (length P) 1024) (a .0) in
+    record {
+      some = leb-true 1 (length P) (b .0);
+      few = leb-true (length P) 1024 (b .1);
+      labels = rows-length 0 P L (a .1);
+      upTo = λ x l. row-parent x (getD P x 0) (parent (a .1) x l) .0;
+      lower = λ x z l. row-parent x (getD P x 0) (parent (a .1) x l) .1 z;
+    }
+  where
+    parent : rowsOk 0 P L ≡ true → (x : ℕ) → x < length P → parentOk x (getD P x 0) ≡ true
+    parent r x l = let z : 0 + x ≡ x = omega arith in rw z at (rows-parent 0 P L r x l)
+
+-- the document of a good table, read by its two lists
+module _ (P L : List ℕ) (G : Good P L) where
+  pub good-parents : Parents P
+  good-parents = record { some = G .some; few = G .few; small = λ x l. let z = G .upTo x l in let y = G .few in omega arith }
+
+  pub in-doc : (x : ℕ) → In (docOf P L) x ↔ (x < length P)
+  in-doc x = let z = doc-length P L (G .labels) in (λ i. omega arith, λ l. omega arith)
+
+  pub label-doc : (x : ℕ) → labelOf (docOf P L) x ≡ getD L x 0
+  label-doc x = ap (λ (r : DocRow). r .label) (doc-row P L (G .labels) x)
+
+  pub child-doc : (v x : ℕ) → Child (docOf P L) v x ↔ ((0 < x) × (x < length P) × (getD P x 0 ≡ v))
+  child-doc v x =
+      let p : docRow (docOf P L) x .parent ≡ getD P x 0 = ap (λ (r : DocRow). r .parent) (doc-row P L (G .labels) x) in
+      let n = doc-length P L (G .labels) in (
+        λ h. let a = h .inside in let b = h .lower in let d = h .above in (omega arith, omega arith, sym p ∙ h .above),
+        λ (z, l, e). let w = G .lower x z l in record { inside = omega arith; lower = omega arith; above = p ∙ e },
+      )

@@ -1,0 +1,81 @@
+-- The first i bytes of row u are right, and the rest of it is clear.
+use borrow.Author.Needs.{needs}
+use mathlib.Core.Path.{_≡_, _∙_}
+use Prim.Native.Nat.{_*_, _-_, _/_, _≤_}
+use lib.ListN.{length}
+use native.Mathlib.Omega.{arith}
+use Rattle.bits.specs.Bits.{OnlyRow}
+use Rattle.bits.proofs.Bits.{only-refl, only-then, store-only}
+use Rattle.matching.specs.Table.{Suits, RowUpTo}
+use Rattle.matching.proofs.Labels.{row-none, row-byte}
+use Rattle.matching.proofs.label_row.Statement.{statement}
+use Rattle.matching.proofs.label_row.Tie as tie
+
+abbrev Inv-loop : tie.InvT-loop
+Inv-loop w₀ u code labels at bytes i₀ w i = (i ≤ bytes) × OnlyRow w₀ u w × RowUpTo w u (Suits code labels) (8 * i)
+
+abbrev μ-loop : tie.MeasureT-loop
+μ-loop w₀ u code labels at bytes i₀ w i = bytes - i
+
+mul-at : tie.Need-mul-at Inv-loop μ-loop
+mul-at c = search needs
+
+loop-holds : tie.Need-loop-holds Inv-loop μ-loop
+loop-holds c = (omega arith, only-refl _ _, row-none _ _ _ (c .before .before .pre .3))
+
+mul-label-byte : tie.Need-mul-label-byte Inv-loop μ-loop
+mul-label-byte c = search needs
+
+label-byte-requires : tie.Need-label-byte-requires Inv-loop μ-loop
+label-byte-requires c κs = (omega (arith, c .before .before .before .before .pre .2), omega arith)
+
+add-w : tie.Need-add-w Inv-loop μ-loop
+add-w c = search needs
+
+slice-write-w : tie.Need-slice-write-w Inv-loop μ-loop
+slice-write-w c = omega (arith, c .before .before .loop .inv .1 .same, c .before .before .before .before .before .pre .1, c .before .before .before .before .before .pre .2)
+
+add-i : tie.Need-add-i Inv-loop μ-loop
+add-i c = search needs
+
+loop-less : tie.Need-loop-less Inv-loop μ-loop
+loop-less c = search needs
+
+loop-again : tie.Need-loop-again Inv-loop μ-loop
+loop-again c = (
+  omega arith,
+  only-then _ _ _ _ (c .before .before .loop .inv .1) (store-only _ _ (c .before .before .loop .i) _ (omega (arith, c .before .before .before .before .before .pre .2)) (omega (arith, c .before .before .loop .inv .1 .same, c .before .before .before .before .before .pre .1))),
+  row-byte _ (Suits (c .before .before .before .before .before .args .code) (c .before .before .before .before .before .args .labels .now)) (c .before .before .loop .i) _ _ (omega (arith, c .before .before .before .before .before .pre .2)) (omega (arith, c .before .before .loop .inv .1 .same, c .before .before .before .before .before .pre .1)) (c .label-byte .ensures) (c .before .before .loop .inv .2),
+)
+
+mul-label-rest : tie.Need-mul-label-rest Inv-loop μ-loop
+mul-label-rest c = search needs
+
+label-rest-requires : tie.Need-label-rest-requires Inv-loop μ-loop
+label-rest-requires c κs = let z : c .before .before .loop .i ≡ length (c .before .before .before .before .before .args .labels .now) / 8 = omega arith in (c .before .before .before .before .before .pre .0, omega (arith, c .before .before .loop .inv .1 .same, c .before .before .before .before .before .pre .1), c .before .before .before .before .before .pre .2, omega arith, rw z at (c .before .before .loop .inv .2))
+
+same-length : tie.Need-same-length Inv-loop μ-loop
+same-length c = c .before .before .label-rest .ensures .only .same ∙ c .before .before .before .before .before .loop .inv .1 .same
+
+returns : tie.Need-returns Inv-loop μ-loop
+returns c = record { only = only-then _ _ _ _ (c .before .before .before .before .before .loop .inv .1) (c .before .before .label-rest .ensures .only); bits = c .before .before .label-rest .ensures .bits }
+
+pub label-row-spec : {M : Type 1} → statement M
+label-row-spec =
+    tie.close
+    (tie.spec
+    Inv-loop
+    μ-loop
+    mul-at
+    loop-holds
+    mul-label-byte
+    label-byte-requires
+    add-w
+    slice-write-w
+    add-i
+    loop-less
+    loop-again
+    mul-label-rest
+    label-rest-requires
+    same-length
+    returns)
