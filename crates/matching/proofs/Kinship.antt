@@ -16,7 +16,7 @@ use borrow.Author.Tests.{eqb-true, eq-eqb, ne-eqb}
 use Rattle.meaning.specs.Matching.{bitAt}
 use Rattle.bits.specs.Bits.{bitOf, Met}
 use Rattle.bits.proofs.Bits.{and-one, zero-bit, low-bit, half-bit, byte-bit}
-use Rattle.matching.specs.Table.{FromByte, ParentOf, Added, RowIs}
+use Rattle.matching.specs.Table.{FromByte, ParentOf, Added, RowIs, RowInside}
 use Rattle.matching.proofs.Labels.{true-false, iff-same}
 
 -- ------------------------------------------------------------------ one bit
@@ -100,7 +100,7 @@ byte-bits b k l e = go (decLt k 8)
         none : bitOf b k ≡ false
         none = unfold bitOf in rw (div-eq-of-lt (lt-of-lt-of-le l (let z : 8 ≤ k = omega arith in pow-mono z)))
 
-module _ (w : List ℕ) (c : ℕ) (P : List ℕ) (inside : (x : ℕ) → x < 1024 → bitAt w c x ≡ true → x < length P) where
+module _ (w : List ℕ) (c : ℕ) (P : List ℕ) (inside : RowInside w c P) where
   -- the bits of byte i
   pub byte-inside : (i : ℕ) → i < 128 → getD w (128 * c + i) 0 < 256 → (k : ℕ) → bitOf (getD w (128 * c + i) 0) k ≡ true → 8 * i + k < length P
   byte-inside i li lb k e =

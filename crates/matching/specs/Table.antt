@@ -49,6 +49,10 @@ pub record RowIs (before : List ℕ) (u : ℕ) (P : ℕ → Type 0) (after : Lis
 abbrev pub RowClear : List ℕ → ℕ → Type 0
 RowClear w u = (v : ℕ) → v < 1024 → bitAt w u v ≡ false
 
+-- a row whose bits stand for nodes of the document
+abbrev pub RowInside : List ℕ → ℕ → List ℕ → Type 0
+RowInside w u parents = (v : ℕ) → v < 1024 → bitAt w u v ≡ true → v < length parents
+
 -- ------------------------------------------------------------------ the whole table
 -- what is asked of the query: rows that are laid out as a tree
 pub record Query (code span : List ℕ) (n : ℕ) : Type 0 where

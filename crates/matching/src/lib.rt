@@ -1,4 +1,4 @@
-// The pair question below its words: the check of a document table, and the match table of a query in rows on a document.
+// The pair question below its words: the check of a document table, the match table of a query in rows on a document, and the pair by climbing.
 ghost use mathlib.Core.Path.{_≡_};
 ghost use mathlib.Core.Logic.{_↔_};
 ghost use mathlib.Core.List.{List};
@@ -11,7 +11,7 @@ ghost use Rattle.meaning.specs.Tree.{Takes};
 ghost use Rattle.meaning.specs.Matching.{parentOk, goodTable, docOf, bitAt, MatchTable, tableBytes};
 ghost use Rattle.bits.specs.Bits.{bitOf, Packed, OnlyRow};
 ghost use Rattle.rows.specs.Rows.{treeRows};
-ghost use Rattle.matching.specs.Table.{Suits, Parents, FromByte, ParentOf, Added, RowUpTo, RowIs, RowClear, Query, Lies, Ready};
+ghost use Rattle.matching.specs.Table.{Suits, Parents, FromByte, ParentOf, Added, RowUpTo, RowIs, RowClear, RowInside, Query, Lies, Ready};
 ghost use Rattle.matching.specs.Pair.{Bears, FirstRow, Asked, OneWay};
 
 // Whether node x may have this parent number and this label.
@@ -153,7 +153,7 @@ fn mark_parents(byte: u8, first: usize, parents: &[u32], has: &mut [u8])
 
 // Flags the parents of the nodes in row c. Node 0, the root, has none: the first byte is read without its lowest bit.
 fn mark_row(w: &[u8], c: usize, parents: &[u32], has: &mut [u8])
-    requires { ⌜ Parents (now parents) × (1024 ≤ length (now has)) × (c < 256) × (128 * c + 128 ≤ length (now w)) × ((x : ℕ) → x < 1024 → bitAt (now w) c x ≡ true → x < length (now parents)) ⌝ }
+    requires { ⌜ Parents (now parents) × (1024 ≤ length (now has)) × (c < 256) × (128 * c + 128 ≤ length (now w)) × RowInside (now w) c (now parents) ⌝ }
     ensures { λ _. ⌜ Added (now (has .entry)) (ParentOf (now (w .entry)) c (now (parents .entry)) (length (now (parents .entry)))) (now (has .exit)) ⌝ }
 {
     let at = 128 * c;
@@ -169,7 +169,7 @@ fn mark_row(w: &[u8], c: usize, parents: &[u32], has: &mut [u8])
 
 // Keeps of row u the nodes that have a child in row c. Parents are flagged by bytes: brothers would wait for each other to set bits of one byte.
 fn keep_parents(w: &mut [u8], u: usize, c: usize, parents: &[u32])
-    requires { ⌜ Parents (now parents) × (u < 256) × (c < 256) × (tableBytes ≤ length (now w)) × ((x : ℕ) → x < 1024 → bitAt (now w) c x ≡ true → x < length (now parents)) × ((x : ℕ) → x < 1024 → bitAt (now w) u x ≡ true → x < length (now parents)) ⌝ }
+    requires { ⌜ Parents (now parents) × (u < 256) × (c < 256) × (tableBytes ≤ length (now w)) × RowInside (now w) c (now parents) × RowInside (now w) u (now parents) ⌝ }
     ensures { λ _. ⌜ RowIs (now (w .entry)) u (λ v. (bitAt (now (w .entry)) u v ≡ true) × ParentOf (now (w .entry)) c (now (parents .entry)) (length (now (parents .entry))) v) (now (w .exit)) ⌝ }
 {
     let mut has = [0u8; 1024];
@@ -194,7 +194,7 @@ fn parent_at(parents: &[u32], x: usize) -> usize
 }
 
 // Fills row u, when the rows behind it are filled: the nodes whose label fits, less those that lack a child for some child of u.
-// Where the row is empty nothing is left to take away.
+// Where the row is empty nothing is left to take away. n, the number of rows, is for the contract alone.
 fn match_row(
     w: &mut [u8],
     code: &[u32],

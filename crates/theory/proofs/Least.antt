@@ -17,7 +17,7 @@ use Rattle.theory.proofs.Weigh.{size-tree}
 use Rattle.theory.proofs.Folding.{folds-trans, Equal, equal-trans}
 use Rattle.theory.proofs.Minimal.{minimal-equal, minimal-to, minimal-from, minimal-reduced}
 use Rattle.theory.proofs.Unique.{minimal-same, sheds-to-minimal-same, smallest}
-use Rattle.theory.proofs.Order.{ordered-size}
+use Rattle.theory.proofs.Order.{ordered-size, ordered-equal}
 use Rattle.theory.proofs.Records.{same-image, same-ordered}
 use Rattle.theory.proofs.Count.{count, src, dst}
 use Rattle.theory.proofs.Marks.{query-tree}
@@ -53,6 +53,13 @@ one-query P Q p q ag =
 -- whichever foldable brother is taken first, the end has the same image, and is the minimal tree once its brothers are in image order
 pub any-order : (f g : Forest Tag) → Sheds f g → Reduced g → (image g ≡ image (minimal f)) × (ordered g ≡ ordered (minimal f))
 any-order f g s r = let z = sheds-to-minimal-same f g s r in (same-image g (minimal f) z, same-ordered g (minimal f) z)
+
+-- nor does it matter in which order the brothers stood
+pub ordered-first : (f : Forest Tag) → ordered (minimal (ordered f)) ≡ ordered (minimal f)
+ordered-first f =
+    same-ordered (minimal (ordered f)) (minimal f)
+    (minimal-same f (minimal (ordered f)) (minimal-reduced (ordered f))
+    (equal-trans f (ordered f) (minimal (ordered f)) ((ordered-equal f) .1, (ordered-equal f) .0) (minimal-equal (ordered f))))
 
 -- ------------------------------------------------------------------ expressions of one meaning
 -- two expressions of one meaning are both empty, or both have tree queries of one meaning

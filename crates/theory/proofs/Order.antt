@@ -1,6 +1,6 @@
--- A forest with its brothers in image order is the forest still: it selects the same pairs and has the same nodes and labels.
+-- A forest with its brothers in image order is the forest still: it folds onto it and back, selects the same pairs and has the same nodes and labels.
 use mathlib.Core.Path.{_≡_, refl, sym, _∙_}
-use mathlib.Core.Logic.{_↔_}
+use mathlib.Core.Logic.{_↔_, inl, inr}
 use mathlib.Core.Option.{Option, some}
 use mathlib.Core.Bool.{Bool, true}
 use Prim.Native.Nat.{ℕ}
@@ -8,9 +8,11 @@ use native.Mathlib.Omega.{arith}
 use Rattle.meaning.specs.Basics.{pick}
 use Rattle.meaning.specs.Document.{Doc}
 use Rattle.meaning.specs.Tree.{Forest, bare, tree, Tag, size, Lays}
+use Rattle.meaning.specs.Folding.{Folds}
 use Rattle.meaning.specs.Image.{LeL, decL, recordOf, records, place, ordered}
 use Rattle.theory.proofs.Count.{count, size-count}
 use Rattle.theory.proofs.Labels.{LabsIn}
+use Rattle.theory.proofs.Folding.{tag-refl, folds-skip, folds-refl, Equal, equal-refl, equal-trans, equal-tree}
 
 -- E does not look at the order of brothers
 record Orderless (E : Forest Tag → Forest Tag → Type 0) : Type 0 where
@@ -66,3 +68,19 @@ ordered-labels P =
       under = λ a k k′ r r′ x y. (λ (l, p, q). (l, x .0 p, y .0 q), λ (l, p, q). (l, x .1 p, y .1 q));
       swap = λ a k b j r. (λ (l, p, q). (q .0, q .1, (l, p, q .2)), λ (l, p, q). (q .0, q .1, (l, p, q .2)));
     })
+
+pub ordered-equal : (f : Forest Tag) → Equal (ordered f) f
+ordered-equal =
+    ordered-same Equal
+    (record {
+      same = equal-refl;
+      via = equal-trans;
+      under = equal-tree;
+      swap = λ a k b j r. (swap a k b j r, swap b j a k r);
+    })
+  where
+    swap : (a : Tag) (k : Forest Tag) (b : Tag) (j r : Forest Tag) → Folds (tree b j (tree a k r)) (tree a k (tree b j r))
+    swap a k b j r = (
+      inr (inl (tag-refl b, folds-refl j)),
+      (inl (tag-refl a, folds-refl k), folds-skip r a k (tree b j r) (folds-skip r b j r (folds-refl r))),
+    )

@@ -1,21 +1,18 @@
 -- What is left of row u, and the children from c on, say where u can be laid.
-use mathlib.Core.Path.{_≡_, _∙_}
-use Prim.Native.Nat.{ℕ, _+_, _-_, _≤_, _<_}
+use mathlib.Core.Path.{_∙_}
+use Prim.Native.Nat.{_+_, _-_, _≤_, _<_}
 use native.Mathlib.Omega.{arith}
-use mathlib.Core.Bool.{true}
-use lib.ListN.{length}
-use Rattle.meaning.specs.Matching.{bitAt}
 use Rattle.bits.specs.Bits.{OnlyRow}
 use Rattle.bits.proofs.Bits.{only-refl, only-then}
 use Rattle.rows.proofs.Rows.{row-opens}
-use Rattle.matching.specs.Table.{RowsFrom}
+use Rattle.matching.specs.Table.{RowInside, RowsFrom}
 use Rattle.matching.proofs.Tables.{good-table, good-parents}
 use Rattle.matching.proofs.Filling.{Partly, partly-next, partly-start, partly-turn, partly-all, partly-clear, rows-kept, rows-inside}
 use Rattle.matching.proofs.match_row.Statement.{statement}
 use Rattle.matching.proofs.match_row.Tie as tie
 
 abbrev Inv-loop : tie.InvT-loop
-Inv-loop w₀ code span n u parents labels end c₀ w c = (u < c) × (end ≤ n) × OnlyRow w₀ u w × RowsFrom code span parents labels n (u + 1) w × Partly code span parents labels u c end w × ((x : ℕ) → x < 1024 → bitAt w u x ≡ true → x < length parents)
+Inv-loop w₀ code span n u parents labels end c₀ w c = (u < c) × (end ≤ n) × OnlyRow w₀ u w × RowsFrom code span parents labels n (u + 1) w × Partly code span parents labels u c end w × RowInside w u parents
 
 abbrev μ-loop : tie.MeasureT-loop
 μ-loop w₀ code span n u parents labels end c₀ w c = end - c
