@@ -8,9 +8,9 @@ use lib.ListN.{length, getD, length-append}
 use lib.Dec.{ltb}
 use Rattle.meaning.specs.Expression.{Expr, child, label}
 use Rattle.meaning.specs.TreeQuery.{Lab, any, lab}
-use Rattle.meaning.specs.Tree.{Forest, bare, tree, Tag, size}
+use Rattle.meaning.specs.Tree.{Forest, bare, tree, Tag}
 use Rattle.meaning.specs.Number.{num}
-use Rattle.meaning.specs.Normal.{all, labelled, branch, onward, chains, eitherIn, off, wordOf}
+use Rattle.meaning.specs.Normal.{labelled, branch, onward, chains, eitherIn, off, wordOf}
 use Rattle.rows.specs.Rows.{labOf, below, mapT, Holds, width}
 use Rattle.rows.proofs.Rows.{size-holds, holds-first, holds-opens, row-opens, row-kids, Opens}
 use Rattle.branches.specs.Joining.{joint, fill, factor, Written}

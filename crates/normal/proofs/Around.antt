@@ -1,23 +1,22 @@
 -- "Let t be the lowest node above or at both s and d": the factors of the tree are those of the ways at row t.
 use mathlib.Core.Path.{_≡_, refl, sym, ap, _∙_}
-use mathlib.Core.Logic.{inl}
-use mathlib.Core.Bool.{Bool, true, false, _&&_, _||_, cond}
+use mathlib.Core.Bool.{Bool, true, false, _&&_, _||_}
 use mathlib.Core.List.{List, [], _∷_, _++_, append-assoc, append-nil}
-use Prim.Native.Nat.{ℕ, zero, suc, _+_, _≤_, _<_}
+use Prim.Native.Nat.{ℕ, suc, _+_, _≤_, _<_}
 use native.Mathlib.Decide.{ℕ-discrete, decLt}
 use native.Mathlib.Omega.{arith}
 use lib.ListN.{getD}
-use lib.Dec.{leb, ltb, eqb}
+use lib.Dec.{leb, ltb}
 use borrow.Author.Tests.{leb-true, ltb-true, eq-eqb, ne-eqb}
 use Rattle.meaning.specs.Expression.{Expr, child, parent}
 use Rattle.meaning.specs.Tree.{Forest, bare, tree, Tag, size}
-use Rattle.meaning.specs.Normal.{labelled, srcIn, dstIn, bothIn, eitherIn, someTree, off, ups, downs, aboveFactor, longer, around, factors}
-use Rattle.rows.specs.Rows.{labOf, below, shape, mapT, Holds, Rows}
+use Rattle.meaning.specs.Normal.{srcIn, dstIn, bothIn, eitherIn, someTree, ups, downs, aboveFactor, around, factors}
+use Rattle.rows.specs.Rows.{below, shape, mapT, Holds, Rows}
 use Rattle.rows.proofs.Rows.{size-holds, holds-first, holds-opens, rows-top}
 use Rattle.branches.specs.Factors.{tagged, under, covers, ownAt}
 use Rattle.branches.proofs.Covers.{src-covers, dst-covers, either-covers, both-covers, covers-in, covers-before, covers-behind}
 use Rattle.normal.specs.Ways.{Covers, Lowest, upsAt, downsAt, wayTo, wayAt, formAt}
-use Rattle.normal.proofs.Walk.{row-open, own-is, or-same, src-same, dst-same, walk-among}
+use Rattle.normal.proofs.Walk.{row-open, own-is, or-same, src-same, dst-same}
 
 -- ------------------------------------------------------------------ who covers whom
 pub covers-true : (span : List ℕ) (c x : ℕ) → covers span c x ≡ true → Covers span c x

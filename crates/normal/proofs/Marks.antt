@@ -2,7 +2,7 @@
 use mathlib.Core.Path.{_≡_, refl, sym, ap, _∙_}
 use mathlib.Core.Bool.{Bool, true, false, cond}
 use mathlib.Core.List.{List}
-use Prim.Native.Nat.{ℕ, zero, suc, _+_, _/_, _%_, _≤_, _<_}
+use Prim.Native.Nat.{ℕ, suc, _+_, _/_, _%_, _≤_, _<_}
 use native.Mathlib.Decide.{ℕ-discrete, decLt}
 use native.Mathlib.Omega.{arith}
 use lib.ListN.{getD}
@@ -100,10 +100,6 @@ bears-dst code mark u l = go (decLt 1 (getD mark u 0))
     go (no m) = let z : getD mark u 0 / 2 % 2 ≡ 0 = omega arith in rw (le-ltb 1 (getD mark u 0) (omega arith), z)
 
 module _ {code mark kids span up : List ℕ} {n : ℕ} (R : Rows code mark kids span up n) where
-  unfolding-rows : (q : Tag → Bool) → count q (treeRows code mark span n) ≡ count q (mapT (tagAt code mark) (shape span n))
-  unfolding treeRows
-  unfolding-rows q = refl
-
   -- the tree by the rows of s and d
   pub tagged-rows : count src (treeRows code mark span n) ≡ 1 → count dst (treeRows code mark span n) ≡ 1 → (s d : ℕ) → s < n → d < n
       → bears mark 1 s ≡ true → bears mark 2 d ≡ true → treeRows code mark span n ≡ mapT (tagged code s d) (shape span n)

@@ -1,9 +1,9 @@
 -- From row to row: the child at or below which a row lies, the parent, and the first row above s that holds d.
-use mathlib.Core.Path.{_≡_, refl, sym, ap, _∙_}
+use mathlib.Core.Path.{_≡_, sym, ap, _∙_}
 use mathlib.Core.Logic.{inl, inr}
-use mathlib.Core.Bool.{Bool, true, false}
+use mathlib.Core.Bool.{true, false}
 use mathlib.Core.List.{List}
-use Prim.Native.Nat.{ℕ, zero, suc, _+_, _≤_, _<_}
+use Prim.Native.Nat.{ℕ, suc, _+_, _≤_, _<_}
 use native.Mathlib.Decide.{ℕ-discrete}
 use native.Mathlib.Omega.{arith}
 use lib.ListN.{length, getD}
@@ -12,7 +12,7 @@ use Rattle.rows.specs.Rows.{below, Holds, Rows}
 use Rattle.rows.proofs.Rows.{holds-first, Opens, row-opens, rows-top, row-up}
 use Rattle.branches.specs.Factors.{covers}
 use Rattle.branches.proofs.Covers.{covers-in}
-use Rattle.normal.specs.Ways.{Covers, Among, Part, Pair, Climb, Lowest, Borne, bears}
+use Rattle.normal.specs.Ways.{Covers, Among, Part, Pair, Lowest, Borne, bears}
 use Rattle.normal.proofs.Walk.{row-open, up-among, up-least}
 use Rattle.normal.proofs.Around.{covers-true, unlike}
 

@@ -1,9 +1,9 @@
 -- Walking the ways row by row: the child that holds the row at a way's end, and what each way is one row further.
 use mathlib.Core.Path.{_≡_, refl, sym, ap, _∙_}
 use mathlib.Core.Logic.{_⊎_, inl, inr}
-use mathlib.Core.Bool.{Bool, true, false, _&&_, _||_, cond}
+use mathlib.Core.Bool.{Bool, true, false, _||_, cond}
 use mathlib.Core.List.{List, [], _∷_, _++_, append-assoc}
-use Prim.Native.Nat.{ℕ, zero, suc, _+_, _≤_, _<_}
+use Prim.Native.Nat.{ℕ, suc, _+_, _≤_, _<_}
 use native.Mathlib.Decide.{ℕ-discrete, decLt}
 use native.Mathlib.Omega.{arith}
 use lib.ListN.{getD}
@@ -11,9 +11,9 @@ use lib.Dec.{eqb}
 use borrow.Author.Tests.{eq-eqb, ne-eqb}
 use Rattle.meaning.specs.Expression.{Expr, child, parent}
 use Rattle.meaning.specs.Tree.{Forest, bare, tree, Tag, size}
-use Rattle.meaning.specs.Normal.{labelled, branch, onward, chains, inTree, srcIn, dstIn, bothIn, eitherIn, off, ups, downs}
+use Rattle.meaning.specs.Normal.{labelled, branch, onward, chains, inTree, srcIn, dstIn, eitherIn, off, ups, downs}
 use Rattle.rows.specs.Rows.{labOf, below, shape, mapT, Holds, Hung, noRow, Rows}
-use Rattle.rows.proofs.Rows.{size-holds, holds-first, holds-opens, Opens, row-opens, rows-top, row-kids, row-up}
+use Rattle.rows.proofs.Rows.{size-holds, holds-first, Opens, row-opens, rows-top, row-kids}
 use Rattle.branches.specs.Factors.{tagged, under, labelAt, covers, branchesAt, ownAt}
 use Rattle.branches.proofs.Covers.{in-covers, src-covers, dst-covers, either-covers, covers-in, covers-before, covers-behind}
 use Rattle.branches.proofs.Chains.{labelled-append, chains-same}

@@ -1,6 +1,5 @@
 -- Writing the ways: what fits, and what stands in the room after each row.
 use mathlib.Core.Path.{_≡_, refl, sym, ap, _∙_}
-use mathlib.Core.Bool.{Bool, true, false}
 use mathlib.Core.List.{List, [], _∷_, _++_, append-assoc, append-nil}
 use Prim.Native.Nat.{ℕ, zero, suc, _+_, _≤_, _<_}
 use native.Mathlib.Decide.{ℕ-discrete}
@@ -10,12 +9,12 @@ use lib.Dec.{ltb}
 use borrow.Author.Tests.{ne-eqb}
 use Rattle.meaning.specs.Expression.{Expr, child, parent}
 use Rattle.meaning.specs.Number.{num}
-use Rattle.meaning.specs.Normal.{all, aboveFactor, wordOf}
-use Rattle.rows.specs.Rows.{below, Rows}
+use Rattle.meaning.specs.Normal.{aboveFactor}
+use Rattle.rows.specs.Rows.{below}
 use Rattle.rows.proofs.Rows.{rows-top}
 use Rattle.branches.specs.Joining.{joint, fill, factor, Written}
 use Rattle.branches.specs.Factors.{Row, ownAt}
-use Rattle.branches.proofs.Joining.{fill-nil, fill-one, fill-first, fill-child, fill-parent, factor-first, factor-rest, factor-then, written-nil, written-is, written-then, written-length, written-reached, first-fits, rest-fits, rest-done, Left, left-is, left-fits, left-step}
+use Rattle.branches.proofs.Joining.{fill-nil, fill-one, fill-first, fill-parent, factor-first, factor-rest, factor-then, written-nil, written-is, written-then, written-length, first-fits, rest-fits, rest-done, Left, left-is, left-fits, left-step}
 use Rattle.normal.specs.Ways.{Covers, Among, Part, Climb, upsAt, downsAt, wayAt, formAt}
 use Rattle.normal.proofs.Walk.{row-open, among-from, ups-step, downs-step, way-step, ups-end, downs-end, way-end}
 use Rattle.normal.proofs.Steps.{covers-self, parent-less, parent-covers, parent-among, parent-least}
