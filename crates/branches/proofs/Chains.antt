@@ -15,7 +15,9 @@ use Rattle.rows.specs.Rows.{labOf, below, mapT, Holds, width}
 use Rattle.rows.proofs.Rows.{size-holds, holds-first, holds-opens, row-opens, row-kids, Opens}
 use Rattle.branches.specs.Joining.{joint, fill, factor, Written}
 use Rattle.branches.specs.Factors.{Row, tagged, under, labelAt, onwardAt, chainAt, covers, offAt, branchesAt, ownAt}
-use Rattle.branches.proofs.Joining.{fill-nil, fill-one, fill-child, fill-first, factor-first, factor-rest, factor-then, written-is, written-then, written-length, written-reached, Left, left-start, left-is, left-fits, left-step, first-fits, rest-fits, rest-done, left-end}
+use Rattle.branches.proofs.Joining.{fill-nil, fill-one, fill-child, fill-first, factor-first, factor-rest, factor-then, written-is}
+use Rattle.branches.proofs.Joining.{written-then, written-length, written-reached, Left, left-start, left-is, left-fits, left-step}
+use Rattle.branches.proofs.Joining.{first-fits, rest-fits, rest-done, left-end}
 use Rattle.branches.proofs.Covers.{either-covers, covers-before}
 
 pub labelled-append : (l : Lab) (xs : List Expr) → labelled l xs ≡ labelled l [] ++ xs
@@ -65,7 +67,12 @@ module _ (code span : List ℕ) (x y : ℕ) where
   off-first c e i k r h =
       let z = holds-first span c e i k r h in
       let E : Expr = branch (child ∷ labelled (labOf (getD code c 0)) (onward (chains (mapT (tagged code c c) (below span c))))) in
-      rw (← h .0, ← z .0, chains-same (tagged code x y) (tagged code c c) (λ j. refl) (below span c), either-covers code span x y c e (z .1)) (go (covers span c x || covers span c y) E)
+      rw (
+        ← h .0,
+        ← z .0,
+        chains-same (tagged code x y) (tagged code c c) (λ j. refl) (below span c),
+        either-covers code span x y c e (z .1),
+      ) (go (covers span c x || covers span c y) E)
     where
       R : List Expr
       R = off eitherIn (mapT (tagged code x y) r) []
@@ -95,13 +102,19 @@ module _ {code span : List ℕ} {x y : ℕ} where
         go bare h w = absurd (omega arith)
         go (tree i k r) h w = left-fits (offAt code span x y c) _ (left-is (off-first code span x y c e i k r h) w)
 
-    pub off-next : {d₁ : List ℕ} {a : ℕ} → c < e → Written d at (fill from at (offAt code span x y c)) d₁ a → Off code span x y (c + getD span c 0) e d₀ from at₀ xs d₁ a
+    pub off-next : {d₁ : List ℕ} {a : ℕ} → c < e → Written d at (fill from at (offAt code span x y c)) d₁ a
+        → Off code span x y (c + getD span c 0) e d₀ from at₀ xs d₁ a
     off-next {d₁} {a} l v = go (O .forest) (O .held) (O .left)
       where
-        go : (F : Forest ℕ) → Holds span c e F → Left d₀ from at₀ xs d at (off eitherIn (mapT (tagged code x y) F) []) → Off code span x y (c + getD span c 0) e d₀ from at₀ xs d₁ a
+        go : (F : Forest ℕ) → Holds span c e F → Left d₀ from at₀ xs d at (off eitherIn (mapT (tagged code x y) F) [])
+            → Off code span x y (c + getD span c 0) e d₀ from at₀ xs d₁ a
         go bare h w = absurd (omega arith)
         go (tree i k r) h w =
-            record { forest = r; held = holds-first span c e i k r h .2; left = left-step (offAt code span x y c) _ (left-is (off-first code span x y c e i k r h) w) v }
+            record {
+              forest = r;
+              held = holds-first span c e i k r h .2;
+              left = left-step (offAt code span x y c) _ (left-is (off-first code span x y c e i k r h) w) v;
+            }
 
     pub off-end : e ≤ c → Left d₀ from at₀ xs d at []
     unfolding mapT

@@ -110,4 +110,6 @@ module _ {code mark kids span up : List ℕ} {n : ℕ} (Q : QueryRows code mark 
   -- "The normal form has at most 2,048 bytes."
   pub form-room : length Word ≤ 2048
   unfolding treeRows
-  form-room = form-short (treeRows code mark span n) (labs-rows 0 n (shape span n) (R .laid) (omega arith)) (omega (arith, size-rows span n (R .laid) code mark, R .few))
+  form-room =
+      let s = size-rows span n (R .laid) code mark in
+      form-short (treeRows code mark span n) (labs-rows 0 n (shape span n) (R .laid) (omega arith)) (omega (arith, R .few))

@@ -55,7 +55,8 @@ module _ (q : Tag → Bool) (f : ℕ → Tag) (span : List ℕ) where
   pub count-find : (u e : ℕ) (F : Forest ℕ) → Holds span u e F → 1 ≤ count q (mapT f F) → (i : ℕ) × (i < e) × (q (f i) ≡ true)
   unfolding mapT
   count-find u e bare h l = absurd (omega arith)
-  count-find u e (tree j k r) h l = go (q (f j)) refl l (decLt 0 (count q (mapT f k))) (λ c. count-find (suc j) (suc j + size k) k (h .2) c) (λ c. count-find (suc j + size k) e r (h .3) c)
+  count-find u e (tree j k r) h l = go (q (f j)) refl l (decLt 0 (count q (mapT f k))) (λ c. count-find (suc j) (suc j + size k) k (h .2) c)
+      (λ c. count-find (suc j + size k) e r (h .3) c)
     where
       go : (b : Bool) → q (f j) ≡ b → 1 ≤ cond b 1 0 + (count q (mapT f k) + count q (mapT f r)) → Dec (0 < count q (mapT f k))
           → (1 ≤ count q (mapT f k) → (i : ℕ) × (i < suc j + size k) × (q (f i) ≡ true)) → (1 ≤ count q (mapT f r) → (i : ℕ) × (i < e) × (q (f i) ≡ true))

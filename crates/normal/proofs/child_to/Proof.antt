@@ -2,12 +2,12 @@
 use Prim.Native.Nat.{_+_, _-_}
 use native.Mathlib.Omega.{arith}
 use lib.ListN.{getD}
-use Rattle.normal.proofs.Steps.{Among-from, children-start, children-here, part-bound}
+use Rattle.normal.proofs.Steps.{Children, children-start, children-here, part-bound}
 use Rattle.normal.proofs.child_to.Statement.{statement}
 use Rattle.normal.proofs.child_to.Tie as tie
 
 abbrev Inv-loop : tie.InvT-loop
-Inv-loop span u x c₀ c = Among-from span u x c
+Inv-loop span u x c₀ c = Children span u x c
 
 abbrev μ-loop : tie.MeasureT-loop
 μ-loop span u x c₀ c = u + getD span u 0 - c
