@@ -8,14 +8,16 @@ use lib.ListN.{length, getD, length-append}
 use lib.Dec.{ltb}
 use Rattle.meaning.specs.Expression.{Expr, child, label}
 use Rattle.meaning.specs.TreeQuery.{Lab, any, lab}
-use Rattle.meaning.specs.Tree.{Forest, bare, tree, Tag, size}
+use Rattle.meaning.specs.Tree.{Forest, bare, tree, Tag}
 use Rattle.meaning.specs.Number.{num}
-use Rattle.meaning.specs.Normal.{all, labelled, branch, onward, chains, eitherIn, off, wordOf}
+use Rattle.meaning.specs.Normal.{labelled, branch, onward, chains, eitherIn, off, wordOf}
 use Rattle.rows.specs.Rows.{labOf, below, mapT, Holds, width}
 use Rattle.rows.proofs.Rows.{size-holds, holds-first, holds-opens, row-opens, row-kids, Opens}
 use Rattle.branches.specs.Joining.{joint, fill, factor, Written}
 use Rattle.branches.specs.Factors.{Row, tagged, under, labelAt, onwardAt, chainAt, covers, offAt, branchesAt, ownAt}
-use Rattle.branches.proofs.Joining.{fill-nil, fill-one, fill-child, fill-first, factor-first, factor-rest, factor-then, written-is, written-then, written-length, Left, left-start, left-is, left-fits, left-step, first-fits, rest-fits, rest-done}
+use Rattle.branches.proofs.Joining.{fill-nil, fill-one, fill-child, fill-first, factor-first, factor-rest, factor-then, written-is}
+use Rattle.branches.proofs.Joining.{written-then, written-length, written-reached, Left, left-start, left-is, left-fits, left-step}
+use Rattle.branches.proofs.Joining.{first-fits, rest-fits, rest-done, left-end}
 use Rattle.branches.proofs.Covers.{either-covers, covers-before}
 
 pub labelled-append : (l : Lab) (xs : List Expr) → labelled l xs ≡ labelled l [] ++ xs
@@ -65,7 +67,12 @@ module _ (code span : List ℕ) (x y : ℕ) where
   off-first c e i k r h =
       let z = holds-first span c e i k r h in
       let E : Expr = branch (child ∷ labelled (labOf (getD code c 0)) (onward (chains (mapT (tagged code c c) (below span c))))) in
-      rw (← h .0, ← z .0, chains-same (tagged code x y) (tagged code c c) (λ j. refl) (below span c), either-covers code span x y c e (z .1)) (go (covers span c x || covers span c y) E)
+      rw (
+        ← h .0,
+        ← z .0,
+        chains-same (tagged code x y) (tagged code c c) (λ j. refl) (below span c),
+        either-covers code span x y c e (z .1),
+      ) (go (covers span c x || covers span c y) E)
     where
       R : List Expr
       R = off eitherIn (mapT (tagged code x y) r) []
@@ -80,27 +87,34 @@ module _ (code span : List ℕ) (x y : ℕ) where
     pub held : Holds span c e forest
     pub left : Left d₀ from at₀ xs d at (off eitherIn (mapT (tagged code x y) forest) [])
 
+module _ {code span : List ℕ} {x y : ℕ} where
   pub off-start : {kids : List ℕ} {u : ℕ} {d₀ : List ℕ} {from at₀ : ℕ} {xs : List Expr} {d : List ℕ} {at : ℕ} → Row code kids span u
-      → Left d₀ from at₀ xs d at (branchesAt code span x y u) → Off (u + 1) (u + getD span u 0) d₀ from at₀ xs d at
+      → Left d₀ from at₀ xs d at (branchesAt code span x y u) → Off code span x y (u + 1) (u + getD span u 0) d₀ from at₀ xs d at
   unfolding under branchesAt
   off-start {kids} {u} R w = let z : u + 1 ≡ suc u = omega arith in rw z (record { forest = below span u; held = row-open R .held; left = w })
 
-  module _ {c e : ℕ} {d₀ : List ℕ} {from at₀ : ℕ} {xs : List Expr} {d : List ℕ} {at : ℕ} (O : Off c e d₀ from at₀ xs d at) where
+  module _ {c e : ℕ} {d₀ : List ℕ} {from at₀ : ℕ} {xs : List Expr} {d : List ℕ} {at : ℕ} (O : Off code span x y c e d₀ from at₀ xs d at) where
     pub off-fits : c < e → at₀ + length (fill from at₀ xs) ≤ length d₀ → at + length (fill from at (offAt code span x y c)) ≤ length d
     off-fits l = go (O .forest) (O .held) (O .left)
       where
         go : (F : Forest ℕ) → Holds span c e F → Left d₀ from at₀ xs d at (off eitherIn (mapT (tagged code x y) F) [])
             → at₀ + length (fill from at₀ xs) ≤ length d₀ → at + length (fill from at (offAt code span x y c)) ≤ length d
         go bare h w = absurd (omega arith)
-        go (tree i k r) h w = left-fits (offAt code span x y c) _ (left-is (off-first c e i k r h) w)
+        go (tree i k r) h w = left-fits (offAt code span x y c) _ (left-is (off-first code span x y c e i k r h) w)
 
-    pub off-next : {d₁ : List ℕ} {a : ℕ} → c < e → Written d at (fill from at (offAt code span x y c)) d₁ a → Off (c + getD span c 0) e d₀ from at₀ xs d₁ a
+    pub off-next : {d₁ : List ℕ} {a : ℕ} → c < e → Written d at (fill from at (offAt code span x y c)) d₁ a
+        → Off code span x y (c + getD span c 0) e d₀ from at₀ xs d₁ a
     off-next {d₁} {a} l v = go (O .forest) (O .held) (O .left)
       where
-        go : (F : Forest ℕ) → Holds span c e F → Left d₀ from at₀ xs d at (off eitherIn (mapT (tagged code x y) F) []) → Off (c + getD span c 0) e d₀ from at₀ xs d₁ a
+        go : (F : Forest ℕ) → Holds span c e F → Left d₀ from at₀ xs d at (off eitherIn (mapT (tagged code x y) F) [])
+            → Off code span x y (c + getD span c 0) e d₀ from at₀ xs d₁ a
         go bare h w = absurd (omega arith)
         go (tree i k r) h w =
-            record { forest = r; held = holds-first span c e i k r h .2; left = left-step (offAt code span x y c) _ (left-is (off-first c e i k r h) w) v }
+            record {
+              forest = r;
+              held = holds-first span c e i k r h .2;
+              left = left-step (offAt code span x y c) _ (left-is (off-first code span x y c e i k r h) w) v;
+            }
 
     pub off-end : e ≤ c → Left d₀ from at₀ xs d at []
     unfolding mapT
@@ -149,7 +163,7 @@ module _ {code kids span : List ℕ} {u : ℕ} (R : Row code kids span u) where
 
   pub more-start : (d : List ℕ) (from at : ℕ) → from ≤ at → (getD kids u 0 ≡ 1 → ⊥)
       → Off code span u u (u + 1) (u + getD span u 0) d from at (onwardAt code span u) d at
-  more-start d from at l e = off-start code span u u R (left-start d from at _ _ (onward-more e) l)
+  more-start d from at l e = off-start R (left-start d from at _ _ (onward-more e) l)
 
   -- the rows below row u
   pub row-below : (c : ℕ) → u < c → c < u + getD span u 0 → (1 ≤ getD span c 0) × (c + getD span c 0 ≤ u + getD span u 0)
@@ -162,37 +176,58 @@ module _ {code kids span : List ℕ} {u : ℕ} (R : Row code kids span u) where
       go bare h w = absurd (omega arith)
       go (tree i k r) h w = let s = size-holds span (suc u) (u + getD span u 0) (tree i k r) h in omega arith
 
--- ------------------------------------------------------------------ writing a chain and a branch
-module _ (code span : List ℕ) (u : ℕ) (d : List ℕ) {from at : ℕ} (le : from ≤ at) where
+-- ------------------------------------------------------------------ writing a chain
+-- child, the label, and then what goes on below
+module _ {code kids span : List ℕ} {u : ℕ} (R : Row code kids span u) (d : List ℕ) {from at : ℕ} (le : from ≤ at) where
+  abbrev label-on : List Expr
+  label-on = labelAt code u ++ onwardAt code span u
+
   pub child-fits : at + length (fill from at (chainAt code span u)) ≤ length d → at + length (factor from at (num 2)) ≤ length d
-  child-fits l = rw (← fill-child from at) (first-fits (child ∷ []) _ (chain-parts code span u) d le l)
+  child-fits l = rw (← fill-child from at) (first-fits (child ∷ []) label-on (chain-parts code span u) d le l)
 
   module _ {d₁ : List ℕ} {a : ℕ} (v : Written d at (factor from at (num 2)) d₁ a) where
     v′ : Written d at (fill from at (child ∷ [])) d₁ a
     v′ = written-is (sym (fill-child from at)) v
 
-    pub below-fits : at + length (fill from at (chainAt code span u)) ≤ length d → a + length (fill from a (labelAt code u ++ onwardAt code span u)) ≤ length d₁
-    below-fits l = rest-fits (child ∷ []) _ (chain-parts code span u) d le v′ l
+    below-fits : at + length (fill from at (chainAt code span u)) ≤ length d → a + length (fill from a label-on) ≤ length d₁
+    below-fits l = rest-fits (child ∷ []) label-on (chain-parts code span u) d le v′ l
 
-    pub chain-done : {d₂ : List ℕ} {r : ℕ} → Written d₁ a (fill from a (labelAt code u ++ onwardAt code span u)) d₂ r → Written d at (fill from at (chainAt code span u)) d₂ r
-    chain-done w = rest-done (child ∷ []) _ (chain-parts code span u) d le v′ w
+    pub label-fits : at + length (fill from at (chainAt code span u)) ≤ length d → a + length (fill from a (labelAt code u)) ≤ length d₁
+    label-fits l = first-fits (labelAt code u) (onwardAt code span u) refl d₁ (written-reached le v) (below-fits l)
 
+    module _ {d₂ : List ℕ} {b : ℕ} (w : Written d₁ a (fill from a (labelAt code u)) d₂ b) where
+      pub onward-reached : from ≤ b
+      onward-reached = written-reached (written-reached le v) w
+
+      pub onward-fits : at + length (fill from at (chainAt code span u)) ≤ length d → b + length (fill from b (onwardAt code span u)) ≤ length d₂
+      onward-fits l = rest-fits (labelAt code u) (onwardAt code span u) refl d₁ (written-reached le v) w (below-fits l)
+
+      pub chain-done : {d₃ : List ℕ} {r : ℕ} → Written d₂ b (fill from b (onwardAt code span u)) d₃ r → Written d at (fill from at (chainAt code span u)) d₃ r
+      chain-done z =
+          rest-done (child ∷ []) label-on (chain-parts code span u) d le v′
+          (rest-done (labelAt code u) (onwardAt code span u) refl d₁ (written-reached le v) w z)
+
+      pub chain-on : {d₃ : List ℕ} {r : ℕ} → getD kids u 0 ≡ 1 → Written d₂ b (fill from b (chainAt code span (u + 1))) d₃ r
+          → Written d at (fill from at (chainAt code span u)) d₃ r
+      chain-on e z = chain-done (written-is (ap (fill from b) (sym (onward-one R e))) z)
+
+-- ------------------------------------------------------------------ writing a branch
 -- "A branch is written as a chain", under one first projection
-pub branch-parts : (code span : List ℕ) (u at : ℕ) → wordOf (branch (chainAt code span u)) ≡ fill at at (chainAt code span u) ++ (5 ∷ [])
-unfolding chainAt
-branch-parts code span u at = rw (fill-first at child (labelled (labOf (getD code u 0)) (onwardAt code span u)))
+module _ {code kids span : List ℕ} {u : ℕ} (R : Row code kids span u) where
+  branch-parts : (at : ℕ) → wordOf (branch (chainAt code span u)) ≡ fill at at (chainAt code span u) ++ (5 ∷ [])
+  unfolding chainAt
+  branch-parts at = rw (fill-first at child (labelled (labOf (getD code u 0)) (onwardAt code span u)))
 
--- a chain under one first projection
-module _ (code span : List ℕ) (u at n : ℕ) (l : at + length (wordOf (branch (chainAt code span u))) ≤ n) where
-  pub chain-fits : at + length (fill at at (chainAt code span u)) ≤ n
-  chain-fits = omega (arith, ap length (branch-parts code span u at), length-append (fill at at (chainAt code span u)) (5 ∷ []))
+  module _ (at n : ℕ) (l : at + length (wordOf (branch (chainAt code span u))) ≤ n) where
+    pub chain-fits : at + length (fill at at (chainAt code span u)) ≤ n
+    chain-fits = omega (arith, ap length (branch-parts at), length-append (fill at at (chainAt code span u)) (5 ∷ []))
 
-  pub five-fits : (a : ℕ) → a ≡ at + length (fill at at (chainAt code span u)) → a < n
-  five-fits a e = omega (arith, ap length (branch-parts code span u at), length-append (fill at at (chainAt code span u)) (5 ∷ []))
+    pub five-fits : (a : ℕ) → a ≡ at + length (fill at at (chainAt code span u)) → a < n
+    five-fits a e = omega (arith, ap length (branch-parts at), length-append (fill at at (chainAt code span u)) (5 ∷ []))
 
-pub branch-done : (code span : List ℕ) (u : ℕ) {d d₁ d₂ : List ℕ} {at a r : ℕ} → Written d at (fill at at (chainAt code span u)) d₁ a → Written d₁ a (5 ∷ []) d₂ r
-    → Written d at (wordOf (branch (chainAt code span u))) d₂ r
-branch-done code span u {at = at} v w = written-is (sym (branch-parts code span u at)) (written-then v w)
+  pub branch-done : {d d₁ d₂ : List ℕ} {at a r : ℕ} → Written d at (fill at at (chainAt code span u)) d₁ a → Written d₁ a (5 ∷ []) d₂ r
+      → Written d at (wordOf (branch (chainAt code span u))) d₂ r
+  branch-done {at = at} v w = written-is (sym (branch-parts at)) (written-then v w)
 
 -- a branch off the ways, joined
 module _ (code span : List ℕ) (x y c from at : ℕ) (ex : covers span c x ≡ false) (ey : covers span c y ≡ false) (d : List ℕ) where
@@ -215,6 +250,23 @@ module _ (code span : List ℕ) (x y c from at : ℕ) (ex : covers span c x ≡ 
     joint-fits {d₁} {a} v =
         let s = written-length v in factor-rest from at (wordOf (branch (chainAt code span c))) (length d₁) a (v .place) (omega (arith, l′))
 
+-- a later brother than u is off the way to u
+module _ {code span : List ℕ} {u c e : ℕ} {d₀ : List ℕ} {from at₀ : ℕ} {xs : List Expr} {d : List ℕ} {at : ℕ}
+    (O : Off code span u u c e d₀ from at₀ xs d at) (l : u < c) (m : c < e) where
+  before : covers span c u ≡ false
+  before = covers-before span c u l
+
+  pub later-branch : at₀ + length (fill from at₀ xs) ≤ length d₀ → at + length (wordOf (branch (chainAt code span c))) ≤ length d
+  later-branch f = branch-fits code span u u c from at before before d (off-fits O m f)
+
+  pub later-joint : {d₁ : List ℕ} {a : ℕ} → at₀ + length (fill from at₀ xs) ≤ length d₀ → Written d at (wordOf (branch (chainAt code span c))) d₁ a
+      → a + length (joint (ltb from at)) ≤ length d₁
+  later-joint f v = joint-fits code span u u c from at before before d (off-fits O m f) v
+
+  pub later-next : {d₁ d₂ : List ℕ} {a r : ℕ} → Written d at (wordOf (branch (chainAt code span c))) d₁ a → Written d₁ a (joint (ltb from at)) d₂ r
+      → Off code span u u (c + getD span c 0) e d₀ from at₀ xs d₂ r
+  later-next v w = off-next O m (off-done code span u u c from at before before d v w)
+
 module _ (code span : List ℕ) (x y c from at : ℕ) where
   pub off-first-way : covers span c x ≡ true → fill from at (offAt code span x y c) ≡ []
   unfolding offAt
@@ -229,6 +281,22 @@ module _ (code span : List ℕ) (x y c from at : ℕ) where
       go false = fill-nil from at
 
 -- ------------------------------------------------------------------ a node's own factors
-pub own-parts : (code span : List ℕ) (x y u : ℕ) → ownAt code span x y u ≡ labelAt code u ++ branchesAt code span x y u
-unfolding ownAt
-own-parts code span x y u = refl
+-- the label, and then the branches off the ways
+module _ {code kids span : List ℕ} {u : ℕ} (R : Row code kids span u) (x y : ℕ) (d : List ℕ) {from at : ℕ} (le : from ≤ at) where
+  own-parts : ownAt code span x y u ≡ labelAt code u ++ branchesAt code span x y u
+  unfolding ownAt
+  own-parts = refl
+
+  pub own-label : at + length (fill from at (ownAt code span x y u)) ≤ length d → at + length (fill from at (labelAt code u)) ≤ length d
+  own-label l = first-fits (labelAt code u) (branchesAt code span x y u) own-parts d le l
+
+  module _ {d₁ : List ℕ} {a : ℕ} (v : Written d at (fill from at (labelAt code u)) d₁ a) where
+    pub own-start : Off code span x y (u + 1) (u + getD span u 0) d₁ from a (branchesAt code span x y u) d₁ a
+    own-start = off-start R (left-start d₁ from a _ _ refl (written-reached le v))
+
+    pub own-rest : at + length (fill from at (ownAt code span x y u)) ≤ length d → a + length (fill from a (branchesAt code span x y u)) ≤ length d₁
+    own-rest l = rest-fits (labelAt code u) (branchesAt code span x y u) own-parts d le v l
+
+    pub own-done : {c e : ℕ} {d₂ : List ℕ} {r : ℕ} → Off code span x y c e d₁ from a (branchesAt code span x y u) d₂ r → e ≤ c
+        → Written d at (fill from at (ownAt code span x y u)) d₂ r
+    own-done O m = rest-done (labelAt code u) (branchesAt code span x y u) own-parts d le v (left-end (off-end O m))

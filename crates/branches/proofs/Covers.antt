@@ -56,7 +56,13 @@ module _ (q : Tag → Bool) (f : ℕ → Tag) (x : ℕ) (only : (i : ℕ) → q 
       go (no l) = rw (between-behind u e x (omega arith))
   holds-between u e (tree i k r) (a, b, c, d) =
       let s = size-holds span (suc i + size k) e r d in
-      rw (only i, holds-between (suc i) (suc i + size k) k c, holds-between (suc i + size k) e r d, between-parts i (suc i + size k) e x (omega arith) (omega arith), a)
+      rw (
+        only i,
+        holds-between (suc i) (suc i + size k) k c,
+        holds-between (suc i + size k) e r d,
+        between-parts i (suc i + size k) e x (omega arith) (omega arith),
+        a,
+      )
 
   pub in-covers : (c e : ℕ) → Opens span c e → inTree q (f c) (mapT f (below span c)) ≡ covers span c x
   unfolding covers
@@ -83,10 +89,12 @@ module _ (code span : List ℕ) (x y c e : ℕ) (o : Opens span c e) where
   dst-covers = in-covers (λ t. t .dst) (tagged code x y) y (λ i. refl) span c e o
 
   pub either-covers : eitherIn (tagged code x y c) (under code span x y c) ≡ (covers span c x || covers span c y)
-  either-covers = ap (λ (b : Bool). b || inTree (λ t. t .dst) (tagged code x y c) (under code span x y c)) src-covers ∙ ap (λ (b : Bool). covers span c x || b) dst-covers
+  either-covers = ap (λ (b : Bool). b || inTree (λ t. t .dst) (tagged code x y c) (under code span x y c)) src-covers
+      ∙ ap (λ (b : Bool). covers span c x || b) dst-covers
 
   pub both-covers : bothIn (tagged code x y c) (under code span x y c) ≡ (covers span c x && covers span c y)
-  both-covers = ap (λ (b : Bool). b && inTree (λ t. t .dst) (tagged code x y c) (under code span x y c)) src-covers ∙ ap (λ (b : Bool). covers span c x && b) dst-covers
+  both-covers = ap (λ (b : Bool). b && inTree (λ t. t .dst) (tagged code x y c) (under code span x y c)) src-covers
+      ∙ ap (λ (b : Bool). covers span c x && b) dst-covers
 
 -- a row covers exactly the rows from it on that its span reaches
 pub covers-in : (span : List ℕ) (c x : ℕ) → c ≤ x → x < c + getD span c 0 → covers span c x ≡ true

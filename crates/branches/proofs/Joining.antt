@@ -1,8 +1,8 @@
 -- Laws of joined factors: the word of joined factors is what is written of them, and two writings one after the other are one.
 use mathlib.Core.Path.{_≡_, refl, sym, ap, _∙_}
-use mathlib.Core.Bool.{Bool, true, false, cond}
+use mathlib.Core.Bool.{Bool, true, false}
 use mathlib.Core.List.{List, [], _∷_, _++_, append-assoc, append-nil}
-use Prim.Native.Nat.{ℕ, suc, _+_, _/_, _%_, _≤_, _<_}
+use Prim.Native.Nat.{ℕ, _+_, _/_, _%_, _≤_, _<_}
 use native.Mathlib.Decide.{decLt}
 use native.Mathlib.Omega.{arith}
 use lib.ListN.{length, length-append}
@@ -11,7 +11,7 @@ use borrow.Author.Tests.{lt-ltb, le-ltb}
 use Rattle.meaning.specs.Basics.{pick}
 use Rattle.meaning.specs.Expression.{Expr, empty, self, child, parent, label, comp, inter, proj1, proj2, inv}
 use Rattle.meaning.specs.Number.{numF, num}
-use Rattle.meaning.specs.Normal.{joined, all, branch, aboveFactor, wordOf}
+use Rattle.meaning.specs.Normal.{joined, all, wordOf}
 use Rattle.groups.specs.Put.{put}
 use Rattle.groups.proofs.Put.{length-put, put-nil, put-append}
 use Rattle.branches.specs.Joining.{joint, run, fill, factor, Written}

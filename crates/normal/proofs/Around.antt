@@ -1,23 +1,22 @@
 -- "Let t be the lowest node above or at both s and d": the factors of the tree are those of the ways at row t.
 use mathlib.Core.Path.{_≡_, refl, sym, ap, _∙_}
-use mathlib.Core.Logic.{inl}
-use mathlib.Core.Bool.{Bool, true, false, _&&_, _||_, cond}
+use mathlib.Core.Bool.{Bool, true, false, _&&_, _||_}
 use mathlib.Core.List.{List, [], _∷_, _++_, append-assoc, append-nil}
-use Prim.Native.Nat.{ℕ, zero, suc, _+_, _≤_, _<_}
+use Prim.Native.Nat.{ℕ, suc, _+_, _≤_, _<_}
 use native.Mathlib.Decide.{ℕ-discrete, decLt}
 use native.Mathlib.Omega.{arith}
 use lib.ListN.{getD}
-use lib.Dec.{leb, ltb, eqb}
+use lib.Dec.{leb, ltb}
 use borrow.Author.Tests.{leb-true, ltb-true, eq-eqb, ne-eqb}
 use Rattle.meaning.specs.Expression.{Expr, child, parent}
 use Rattle.meaning.specs.Tree.{Forest, bare, tree, Tag, size}
-use Rattle.meaning.specs.Normal.{labelled, srcIn, dstIn, bothIn, eitherIn, someTree, off, ups, downs, aboveFactor, longer, around, factors}
-use Rattle.rows.specs.Rows.{labOf, below, shape, mapT, Holds, Rows}
+use Rattle.meaning.specs.Normal.{srcIn, dstIn, bothIn, eitherIn, someTree, ups, downs, aboveFactor, around, factors}
+use Rattle.rows.specs.Rows.{below, shape, mapT, Holds, Rows}
 use Rattle.rows.proofs.Rows.{size-holds, holds-first, holds-opens, rows-top}
 use Rattle.branches.specs.Factors.{tagged, under, covers, ownAt}
 use Rattle.branches.proofs.Covers.{src-covers, dst-covers, either-covers, both-covers, covers-in, covers-before, covers-behind}
 use Rattle.normal.specs.Ways.{Covers, Lowest, upsAt, downsAt, wayTo, wayAt, formAt}
-use Rattle.normal.proofs.Walk.{row-open, own-is, or-same, src-same, dst-same, walk-among}
+use Rattle.normal.proofs.Walk.{row-open, own-is, or-same, src-same, dst-same}
 
 -- ------------------------------------------------------------------ who covers whom
 pub covers-true : (span : List ℕ) (c x : ℕ) → covers span c x ≡ true → Covers span c x
@@ -82,7 +81,8 @@ module _ {code mark kids span up : List ℕ} {n : ℕ} (R : Rows code mark kids 
     some-here u e bare h l m b = absurd (omega arith)
     some-here u e (tree i k r) h l m b = go (decLt t (u + getD span u 0)) (λ a. some-here (u + getD span u 0) e r (holds-first span u e i k r h .2) l a b)
       where
-        go : Dec (t < u + getD span u 0) → (u + getD span u 0 ≤ t → someTree bothIn (mapT (tagged code s d) r) ≡ true) → someTree bothIn (mapT (tagged code s d) (tree i k r)) ≡ true
+        go : Dec (t < u + getD span u 0) → (u + getD span u 0 ≤ t → someTree bothIn (mapT (tagged code s d) r) ≡ true)
+            → someTree bothIn (mapT (tagged code s d) (tree i k r)) ≡ true
         go (yes a) f = some-first u e i k r h l ∙ rw (covers-in span u t m a)
         go (no a) f = some-first u e i k r h l ∙ rw (covers-behind span u t (omega arith)) (f (omega arith))
 
@@ -103,7 +103,16 @@ module _ {code mark kids span up : List ℕ} {n : ℕ} (R : Rows code mark kids 
       at-here q =
           let o = row-open R u l in
           let c = covers-in span u t (omega arith) (omega (arith, o .some)) in
-          rw (both-row u l, c, some-none (suc u) (u + getD span u 0) (below span u) (o .held) (o .inside) (omega arith), dst-covers code span t t u n o, c, eq-eqb u t q, append-nil way, q)
+          rw (
+            both-row u l,
+            c,
+            some-none (suc u) (u + getD span u 0) (below span u) (o .held) (o .inside) (omega arith),
+            dst-covers code span t t u n o,
+            c,
+            eq-eqb u t q,
+            append-nil way,
+            q,
+          )
 
       at-below : (u ≡ t → ⊥) → Covers span u t → ((v : List Expr) → factors (under code span s d u) v ≡ At (v ++ wayTo (under code span t t u))) → F ≡ At (way ++ W)
       unfolding under wayTo
@@ -137,10 +146,11 @@ module _ {code mark kids span up : List ℕ} {n : ℕ} (R : Rows code mark kids 
     factors-at u e (tree i k r) h l m b way =
         let z = holds-first span u e i k r h in
         let w = size-holds span u e (tree i k r) h in
+        let w′ = size-holds span (suc i + size k) e r (h .3) in
         let y : getD span u 0 ≡ suc (size k) = rw (h .0) (h .1) in
         rw (← h .0, ← z .0)
         (go (ℕ-discrete u t) (decLt t (u + getD span u 0)) (omega arith)
-        (λ a c v. rw (z .0) (factors-at (suc i) (suc i + size k) k (h .2) (omega (arith, size-holds span (suc i + size k) e r (h .3))) (omega (arith, h .0, a)) (omega (arith, h .0, c)) v))
+        (λ a c v. rw (z .0) (factors-at (suc i) (suc i + size k) k (h .2) (omega arith) (omega (arith, h .0, a)) (omega (arith, h .0, c)) v))
         (λ a. factors-at (u + getD span u 0) e r (z .2) l a b way))
       where
         go : Dec (u ≡ t) → Dec (t < u + getD span u 0) → u < n

@@ -1,6 +1,6 @@
 -- The normal form of rows: its factors are those of the ways, "with no factor at all the word is 1", and it has at most 2,048 bytes.
 use mathlib.Core.Path.{_≡_, refl, sym, ap, _∙_}
-use mathlib.Core.Bool.{Bool, true}
+use mathlib.Core.Bool.{true}
 use mathlib.Core.List.{List, [], _∷_}
 use Prim.Native.Nat.{ℕ, zero, suc, _+_, _≤_, _<_}
 use native.Mathlib.Omega.{arith}
@@ -39,10 +39,6 @@ fill-none (x ∷ xs) z = absurd (omega (arith, ap length (fill-first 0 x xs), wo
 no-bytes : (bs : List ℕ) → length bs ≡ 0 → bs ≡ []
 no-bytes [] e = refl
 no-bytes (b ∷ bs) e = absurd (omega arith)
-
--- what ends where it began has written nothing
-pub written-none : {d bs e : List ℕ} {at r : ℕ} → Written d at bs e r → r ≡ at → e ≡ d
-written-none {d} {bs} {e} {at} {r} w q = w .bytes ∙ ap (put d at) (no-bytes bs (omega (arith, w .place))) ∙ put-nil d at
 
 -- ------------------------------------------------------------------ rows
 module _ {code mark kids span up : List ℕ} {n : ℕ} (Q : QueryRows code mark kids span up n) where
@@ -88,12 +84,15 @@ module _ {code mark kids span up : List ℕ} {n : ℕ} (Q : QueryRows code mark 
     pub form-fits : (m : ℕ) → length Word ≤ m → length (fill 0 0 (formAt code span s d t)) ≤ m
     form-fits m l = omega (arith, ap length form-word, fill-short (formAt code span s d t))
 
-    pub form-some : (length (fill 0 0 (formAt code span s d t)) ≡ 0 → ⊥) → Word ≡ fill 0 0 (formAt code span s d t)
-    form-some z = form-word ∙ fill-word (formAt code span s d t) z
+    module _ {e₀ e : List ℕ} {end : ℕ} (w : Written e₀ 0 (fill 0 0 (formAt code span s d t)) e end) where
+      pub form-some : (end ≡ 0 → ⊥) → Written e₀ 0 Word e end
+      form-some z = written-is (sym (form-word ∙ fill-word (formAt code span s d t) (λ q. z (omega (arith, w .place))))) w
 
-    -- "With no factor at all the word is 1."
-    pub form-none : length (fill 0 0 (formAt code span s d t)) ≡ 0 → Word ≡ 1 ∷ []
-    form-none z = form-word ∙ fill-none (formAt code span s d t) z
+      -- "With no factor at all the word is 1.": the room is still as it was
+      pub form-none : end ≡ 0 → (Word ≡ 1 ∷ []) × (e ≡ e₀)
+      form-none z =
+          let q : length (fill 0 0 (formAt code span s d t)) ≡ 0 = omega (arith, w .place) in
+          (form-word ∙ fill-none (formAt code span s d t) q, w .bytes ∙ ap (put e₀ 0) (no-bytes (fill 0 0 (formAt code span s d t)) q) ∙ put-nil e₀ 0)
 
   -- ------------------------------------------------------------------ its length
   labs-rows : (u e : ℕ) (F : Forest ℕ) → Holds span u e F → e ≤ n → LabsIn InRange (mapT (tagAt code mark) F)
@@ -111,4 +110,6 @@ module _ {code mark kids span up : List ℕ} {n : ℕ} (Q : QueryRows code mark 
   -- "The normal form has at most 2,048 bytes."
   pub form-room : length Word ≤ 2048
   unfolding treeRows
-  form-room = form-short (treeRows code mark span n) (labs-rows 0 n (shape span n) (R .laid) (omega arith)) (omega (arith, size-rows span n (R .laid) code mark, R .few))
+  form-room =
+      let s = size-rows span n (R .laid) code mark in
+      form-short (treeRows code mark span n) (labs-rows 0 n (shape span n) (R .laid) (omega arith)) (omega (arith, R .few))

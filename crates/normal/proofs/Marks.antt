@@ -2,7 +2,7 @@
 use mathlib.Core.Path.{_≡_, refl, sym, ap, _∙_}
 use mathlib.Core.Bool.{Bool, true, false, cond}
 use mathlib.Core.List.{List}
-use Prim.Native.Nat.{ℕ, zero, suc, _+_, _/_, _%_, _≤_, _<_}
+use Prim.Native.Nat.{ℕ, suc, _+_, _/_, _%_, _≤_, _<_}
 use native.Mathlib.Decide.{ℕ-discrete, decLt}
 use native.Mathlib.Omega.{arith}
 use lib.ListN.{getD}
@@ -55,7 +55,8 @@ module _ (q : Tag → Bool) (f : ℕ → Tag) (span : List ℕ) where
   pub count-find : (u e : ℕ) (F : Forest ℕ) → Holds span u e F → 1 ≤ count q (mapT f F) → (i : ℕ) × (i < e) × (q (f i) ≡ true)
   unfolding mapT
   count-find u e bare h l = absurd (omega arith)
-  count-find u e (tree j k r) h l = go (q (f j)) refl l (decLt 0 (count q (mapT f k))) (λ c. count-find (suc j) (suc j + size k) k (h .2) c) (λ c. count-find (suc j + size k) e r (h .3) c)
+  count-find u e (tree j k r) h l = go (q (f j)) refl l (decLt 0 (count q (mapT f k))) (λ c. count-find (suc j) (suc j + size k) k (h .2) c)
+      (λ c. count-find (suc j + size k) e r (h .3) c)
     where
       go : (b : Bool) → q (f j) ≡ b → 1 ≤ cond b 1 0 + (count q (mapT f k) + count q (mapT f r)) → Dec (0 < count q (mapT f k))
           → (1 ≤ count q (mapT f k) → (i : ℕ) × (i < suc j + size k) × (q (f i) ≡ true)) → (1 ≤ count q (mapT f r) → (i : ℕ) × (i < e) × (q (f i) ≡ true))
@@ -100,10 +101,6 @@ bears-dst code mark u l = go (decLt 1 (getD mark u 0))
     go (no m) = let z : getD mark u 0 / 2 % 2 ≡ 0 = omega arith in rw (le-ltb 1 (getD mark u 0) (omega arith), z)
 
 module _ {code mark kids span up : List ℕ} {n : ℕ} (R : Rows code mark kids span up n) where
-  unfolding-rows : (q : Tag → Bool) → count q (treeRows code mark span n) ≡ count q (mapT (tagAt code mark) (shape span n))
-  unfolding treeRows
-  unfolding-rows q = refl
-
   -- the tree by the rows of s and d
   pub tagged-rows : count src (treeRows code mark span n) ≡ 1 → count dst (treeRows code mark span n) ≡ 1 → (s d : ℕ) → s < n → d < n
       → bears mark 1 s ≡ true → bears mark 2 d ≡ true → treeRows code mark span n ≡ mapT (tagged code s d) (shape span n)

@@ -1,9 +1,9 @@
 -- From row to row: the child at or below which a row lies, the parent, and the first row above s that holds d.
-use mathlib.Core.Path.{_≡_, refl, sym, ap, _∙_}
+use mathlib.Core.Path.{_≡_, sym, ap, _∙_}
 use mathlib.Core.Logic.{inl, inr}
-use mathlib.Core.Bool.{Bool, true, false}
+use mathlib.Core.Bool.{true, false}
 use mathlib.Core.List.{List}
-use Prim.Native.Nat.{ℕ, zero, suc, _+_, _≤_, _<_}
+use Prim.Native.Nat.{ℕ, suc, _+_, _≤_, _<_}
 use native.Mathlib.Decide.{ℕ-discrete}
 use native.Mathlib.Omega.{arith}
 use lib.ListN.{length, getD}
@@ -12,7 +12,7 @@ use Rattle.rows.specs.Rows.{below, Holds, Rows}
 use Rattle.rows.proofs.Rows.{holds-first, Opens, row-opens, rows-top, row-up}
 use Rattle.branches.specs.Factors.{covers}
 use Rattle.branches.proofs.Covers.{covers-in}
-use Rattle.normal.specs.Ways.{Covers, Among, Part, Pair, Climb, Lowest, Borne, bears}
+use Rattle.normal.specs.Ways.{Covers, Among, Part, Pair, Lowest, Borne, bears}
 use Rattle.normal.proofs.Walk.{row-open, up-among, up-least}
 use Rattle.normal.proofs.Around.{covers-true, unlike}
 
@@ -26,7 +26,7 @@ borne-next {mark} {bit} {u} B e = record { row = B .row; low = go (ℕ-discrete 
 
 -- ------------------------------------------------------------------ the child that holds row x
 -- the brothers from row c up to the end of row u's part are children of row u, and x lies at or behind c
-pub record Among-from (span : List ℕ) (u x c : ℕ) : Type 0 where
+pub record Children (span : List ℕ) (u x c : ℕ) : Type 0 where
   pub forest : Forest ℕ
   pub held : Holds span c (u + getD span u 0) forest
   pub inside : (y : ℕ) → Among y forest → Among y (below span u)
@@ -35,7 +35,7 @@ pub record Among-from (span : List ℕ) (u x c : ℕ) : Type 0 where
 part-open : {span : List ℕ} {u : ℕ} (P : Part span u) → Opens span u (P .n)
 part-open {span} {u} P = row-opens span (P .n) (P .laid) u (P .within)
 
-pub children-start : {span : List ℕ} {u x : ℕ} → Part span u → u < x → Among-from span u x (u + 1)
+pub children-start : {span : List ℕ} {u x : ℕ} → Part span u → u < x → Children span u x (u + 1)
 children-start {span} {u} P l =
     let z : u + 1 ≡ suc u = omega arith in
     rw z (record { forest = below span u; held = part-open P .held; inside = λ y a. a; low = omega arith })
@@ -45,9 +45,9 @@ pub record Child (span : List ℕ) (u x c : ℕ) : Type 0 where
   pub among : Among c (below span u)
   pub some : 1 ≤ getD span c 0
   pub ends : c + getD span c 0 ≤ u + getD span u 0
-  pub further : c + getD span c 0 ≤ x → Among-from span u x (c + getD span c 0)
+  pub further : c + getD span c 0 ≤ x → Children span u x (c + getD span c 0)
 
-pub children-here : {span : List ℕ} {u x c : ℕ} → Among-from span u x c → x < u + getD span u 0 → Child span u x c
+pub children-here : {span : List ℕ} {u x c : ℕ} → Children span u x c → x < u + getD span u 0 → Child span u x c
 children-here {span} {u} {x} {c} A l = go (A .forest) (A .held) (A .inside)
   where
     go : (F : Forest ℕ) → Holds span c (u + getD span u 0) F → ((y : ℕ) → Among y F → Among y (below span u)) → Child span u x c

@@ -1,9 +1,9 @@
 -- Walking the ways row by row: the child that holds the row at a way's end, and what each way is one row further.
 use mathlib.Core.Path.{_≡_, refl, sym, ap, _∙_}
 use mathlib.Core.Logic.{_⊎_, inl, inr}
-use mathlib.Core.Bool.{Bool, true, false, _&&_, _||_, cond}
+use mathlib.Core.Bool.{Bool, true, false, _||_, cond}
 use mathlib.Core.List.{List, [], _∷_, _++_, append-assoc}
-use Prim.Native.Nat.{ℕ, zero, suc, _+_, _≤_, _<_}
+use Prim.Native.Nat.{ℕ, suc, _+_, _≤_, _<_}
 use native.Mathlib.Decide.{ℕ-discrete, decLt}
 use native.Mathlib.Omega.{arith}
 use lib.ListN.{getD}
@@ -11,9 +11,9 @@ use lib.Dec.{eqb}
 use borrow.Author.Tests.{eq-eqb, ne-eqb}
 use Rattle.meaning.specs.Expression.{Expr, child, parent}
 use Rattle.meaning.specs.Tree.{Forest, bare, tree, Tag, size}
-use Rattle.meaning.specs.Normal.{labelled, branch, onward, chains, inTree, srcIn, dstIn, bothIn, eitherIn, off, ups, downs}
+use Rattle.meaning.specs.Normal.{labelled, branch, onward, chains, inTree, srcIn, dstIn, eitherIn, off, ups, downs}
 use Rattle.rows.specs.Rows.{labOf, below, shape, mapT, Holds, Hung, noRow, Rows}
-use Rattle.rows.proofs.Rows.{size-holds, holds-first, holds-opens, Opens, row-opens, rows-top, row-kids, row-up}
+use Rattle.rows.proofs.Rows.{size-holds, holds-first, Opens, row-opens, rows-top, row-kids}
 use Rattle.branches.specs.Factors.{tagged, under, labelAt, covers, branchesAt, ownAt}
 use Rattle.branches.proofs.Covers.{in-covers, src-covers, dst-covers, either-covers, covers-in, covers-before, covers-behind}
 use Rattle.branches.proofs.Chains.{labelled-append, chains-same}
@@ -46,11 +46,13 @@ among-up span up p u e (tree i k r) h g c l m = go (ℕ-discrete c i) (decLt c (
     in-r (inl (q, a)) = inl (q, inr a)
     in-r (inr (q, a)) = inr (omega (arith, h .0), a)
 
-    go : Dec (c ≡ i) → Dec (c < suc i + size k) → (suc i ≤ c → c < suc i + size k → Up i (suc i) k) → (suc i + size k ≤ c → Up p (suc i + size k) r) → Up p u (tree i k r)
+    go : Dec (c ≡ i) → Dec (c < suc i + size k) → (suc i ≤ c → c < suc i + size k → Up i (suc i) k)
+        → (suc i + size k ≤ c → Up p (suc i + size k) r) → Up p u (tree i k r)
     go (yes q) d f b = inl (rw q (g .0), inl q)
     go (no q) (yes d) f b = in-k (f (omega (arith, h .0)) d)
     go (no q) (no d) f b = in-r (b (omega arith))
 
+-- what follows a node's own factors stands behind them
 off-append : (p : Tag → Forest Tag → Bool) (k : Forest Tag) (l : List Expr) → off p k l ≡ off p k [] ++ l
 off-append p bare l = refl
 off-append p (tree b j r) l = go (p b j) (off-append p r l)
@@ -67,7 +69,8 @@ off-append p (tree b j r) l = go (p b j) (off-append p r l)
 module _ (q : Tag → Bool) (W : Forest Tag → List Expr) (next : Tag → Forest Tag → List Expr)
     (way-tree : (b : Tag) (j r : Forest Tag) → W (tree b j r) ≡ cond (inTree q b j) (next b j) (W r))
     (f : ℕ → Tag) (x : ℕ) (only : (i : ℕ) → q (f i) ≡ eqb i x) (span : List ℕ) where
-  skips : (b : Bool) (u e i : ℕ) (k r : Forest ℕ) → Holds span u e (tree i k r) → covers span u x ≡ b → W (mapT f (tree i k r)) ≡ cond b (next (f u) (mapT f (below span u))) (W (mapT f r))
+  skips : (b : Bool) (u e i : ℕ) (k r : Forest ℕ) → Holds span u e (tree i k r) → covers span u x ≡ b
+      → W (mapT f (tree i k r)) ≡ cond b (next (f u) (mapT f (below span u))) (W (mapT f r))
   unfolding mapT
   skips b u e i k r h t =
       let z = holds-first span u e i k r h in
@@ -93,6 +96,7 @@ module _ (q : Tag → Bool) (W : Forest Tag → List Expr) (next : Tag → Fores
       let z = holds-first span u e i k r h .2 in
       skips false u e i k r h (covers-before span u x l) ∙ walk-none (u + getD span u 0) e r z (omega arith)
 
+-- ------------------------------------------------------------------ rows that are a tree
 pub or-same : (b : Bool) → b ≡ (b || b)
 or-same true = refl
 or-same false = refl
@@ -115,7 +119,9 @@ module _ {code mark kids span up : List ℕ} {n : ℕ} (R : Rows code mark kids 
 
   -- what holds a row holds its parent, unless it is the row itself
   pub up-least : (v c : ℕ) → v < c → c < v + getD span v 0 → v < n → v ≤ getD up c 0
-  up-least v c l m b = let K = row-kids code mark kids span up n R v b .1 in go (K .forest) (among-up span up v (suc v) (v + getD span v 0) (K .forest) (K .held) (K .hung) c l m)
+  up-least v c l m b =
+      let K = row-kids code mark kids span up n R v b .1 in
+      go (K .forest) (among-up span up v (suc v) (v + getD span v 0) (K .forest) (K .held) (K .hung) c l m)
     where
       go : (F : Forest ℕ) → ((getD up c 0 ≡ v) × Among c F) ⊎ ((suc v ≤ getD up c 0) × Among c (below span (getD up c 0))) → v ≤ getD up c 0
       go F (inl (q, a)) = omega arith
@@ -130,13 +136,24 @@ module _ {code mark kids span up : List ℕ} {n : ℕ} (R : Rows code mark kids 
     off-same u e (tree i k r) h l =
         let z = holds-first span u e i k r h in
         let w = size-holds span u e (tree i k r) h in
-        rw (← h .0, ← z .0, same u (omega arith), either-covers code span x y u e (z .1), chains-same (tagged code s d) (tagged code x y) (λ j. refl) (below span u), off-same (u + getD span u 0) e r (z .2) l)
+        rw (
+          ← h .0,
+          ← z .0,
+          same u (omega arith),
+          either-covers code span x y u e (z .1),
+          chains-same (tagged code s d) (tagged code x y) (λ j. refl) (below span u),
+          off-same (u + getD span u 0) e r (z .2) l,
+        )
 
     pub own-is : (c : ℕ) → c < n → (l : List Expr) → labelled (labOf (getD code c 0)) (off p (under code span s d c) l) ≡ ownAt code span x y c ++ l
     unfolding under ownAt labelAt branchesAt
     own-is c m l =
         let o = row-open c m in
-        rw (off-append p (mapT (tagged code s d) (below span c)) l, off-same (suc c) (c + getD span c 0) (below span c) (o .held) (o .inside), labelled-append (labOf (getD code c 0)) (off eitherIn (mapT (tagged code x y) (below span c)) [] ++ l))
+        rw (
+          off-append p (mapT (tagged code s d) (below span c)) l,
+          off-same (suc c) (c + getD span c 0) (below span c) (o .held) (o .inside),
+          labelled-append (labOf (getD code c 0)) (off eitherIn (mapT (tagged code x y) (below span c)) [] ++ l),
+        )
         (sym (append-assoc (labelled (labOf (getD code c 0)) []) (off eitherIn (mapT (tagged code x y) (below span c)) []) l))
 
   pub src-same : (s d c : ℕ) → c < n → srcIn (tagged code s d c) (under code span s d c) ≡ (covers span c s || covers span c s)
@@ -165,7 +182,8 @@ module _ {code mark kids span up : List ℕ} {n : ℕ} (R : Rows code mark kids 
     unfolding wayAt wayTo under
     way-step t v z =
         rw (ne-eqb x t z) (ap (λ (l : List Expr). ownAt code span t t x ++ (child ∷ l))
-        (walk-among (λ t. t .dst) wayTo (λ b j. cond (b .dst) [] (labelled (b .lab) (off dstIn j (child ∷ wayTo j)))) (λ b j r. refl) (tagged code t t) t (λ i. refl) span
+        (walk-among (λ t. t .dst) wayTo (λ b j. cond (b .dst) [] (labelled (b .lab) (off dstIn j (child ∷ wayTo j)))) (λ b j r. refl)
+        (tagged code t t) t (λ i. refl) span
         (suc x) (x + getD span x 0) (below span x) (row-open x lx .held) c a v
         ∙ ap (cond (eqb c t) []) (own-is dstIn t t t t (dst-same t t) c lc (child ∷ wayTo (under code span t t c)))))
 

@@ -1,6 +1,5 @@
 -- Writing the ways: what fits, and what stands in the room after each row.
 use mathlib.Core.Path.{_≡_, refl, sym, ap, _∙_}
-use mathlib.Core.Bool.{Bool, true, false}
 use mathlib.Core.List.{List, [], _∷_, _++_, append-assoc, append-nil}
 use Prim.Native.Nat.{ℕ, zero, suc, _+_, _≤_, _<_}
 use native.Mathlib.Decide.{ℕ-discrete}
@@ -10,12 +9,13 @@ use lib.Dec.{ltb}
 use borrow.Author.Tests.{ne-eqb}
 use Rattle.meaning.specs.Expression.{Expr, child, parent}
 use Rattle.meaning.specs.Number.{num}
-use Rattle.meaning.specs.Normal.{all, aboveFactor, wordOf}
-use Rattle.rows.specs.Rows.{below, Rows}
+use Rattle.meaning.specs.Normal.{aboveFactor}
+use Rattle.rows.specs.Rows.{below}
 use Rattle.rows.proofs.Rows.{rows-top}
 use Rattle.branches.specs.Joining.{joint, fill, factor, Written}
 use Rattle.branches.specs.Factors.{Row, ownAt}
-use Rattle.branches.proofs.Joining.{fill-nil, fill-one, fill-first, fill-child, fill-parent, factor-first, factor-rest, factor-then, written-nil, written-is, written-then, written-length, written-reached, first-fits, rest-fits, rest-done, Left, left-is, left-fits, left-step}
+use Rattle.branches.proofs.Joining.{fill-nil, fill-one, fill-first, fill-parent, factor-first, factor-rest, factor-then, written-nil}
+use Rattle.branches.proofs.Joining.{written-is, written-then, written-length, first-fits, rest-fits, rest-done, Left, left-is, left-fits, left-step}
 use Rattle.normal.specs.Ways.{Covers, Among, Part, Climb, upsAt, downsAt, wayAt, formAt}
 use Rattle.normal.proofs.Walk.{row-open, among-from, ups-step, downs-step, way-step, ups-end, downs-end, way-end}
 use Rattle.normal.proofs.Steps.{covers-self, parent-less, parent-covers, parent-among, parent-least}
@@ -51,14 +51,17 @@ module _ {code kids span up : List ℕ} {t s : ℕ} (C : Climb code kids span up
   -- what is written up to row x is the beginning of what is owed
   ups-begin : (k x : ℕ) → x ≤ k → t ≤ x → Covers span x s → (zs : List Expr) × (upsAt code span s t ≡ upsAt code span s x ++ zs)
   ups-begin zero x l tx v = let z : x ≡ t = omega arith in ([], rw z (sym (append-nil (upsAt code span s t))))
-  ups-begin (suc k) x l tx v = go (ℕ-discrete x t) (λ ne. ups-begin k (getD up x 0) (omega (arith, rise-less x tx v ne)) (rise-from x tx v ne) (rise-covers x tx v ne))
+  ups-begin (suc k) x l tx v =
+      go (ℕ-discrete x t) (λ ne. let m = rise-less x tx v ne in ups-begin k (getD up x 0) (omega arith) (rise-from x tx v ne) (rise-covers x tx v ne))
     where
       go : Dec (x ≡ t) → ((x ≡ t → ⊥) → (zs : List Expr) × (upsAt code span s t ≡ upsAt code span s (getD up x 0) ++ zs))
           → (zs : List Expr) × (upsAt code span s t ≡ upsAt code span s x ++ zs)
       go (yes z) f = ([], rw z (sym (append-nil (upsAt code span s t))))
       go (no ne) f =
-          let (zs, e) = f ne in
-          ((ownAt code span s s x ++ (parent ∷ [])) ++ zs, e ∙ ap (λ (l : List Expr). l ++ zs) (rise-step x tx v ne) ∙ append-assoc (upsAt code span s x) (ownAt code span s s x ++ (parent ∷ [])) zs)
+          let (zs, e) = f ne in (
+            (ownAt code span s s x ++ (parent ∷ [])) ++ zs,
+            e ∙ ap (λ (l : List Expr). l ++ zs) (rise-step x tx v ne) ∙ append-assoc (upsAt code span s x) (ownAt code span s s x ++ (parent ∷ [])) zs,
+          )
 
   module _ (x : ℕ) (tx : t ≤ x) (v : Covers span x s) (ne : x ≡ t → ⊥)
       (d₀ : List ℕ) {d : List ℕ} {at : ℕ} (w : Written d₀ 0 (fill 0 0 (upsAt code span s x)) d at) where
@@ -151,7 +154,8 @@ pub above-none : (code span : List ℕ) (from at t : ℕ) → t ≡ 0 → fill f
 unfolding wayAt
 above-none code span from at t z = rw z (fill-nil from at)
 
-pub above-some : (code span : List ℕ) (from at t : ℕ) → (t ≡ 0 → ⊥) → fill from at (aboveFactor (wayAt code span t 0) []) ≡ factor from at (fill at at (wayAt code span t 0) ++ (6 ∷ []))
+pub above-some : (code span : List ℕ) (from at t : ℕ) → (t ≡ 0 → ⊥)
+    → fill from at (aboveFactor (wayAt code span t 0) []) ≡ factor from at (fill at at (wayAt code span t 0) ++ (6 ∷ []))
 unfolding wayAt
 above-some code span from at t ne = rw (ne-eqb 0 t (λ q. ne (sym q))) (go (ownAt code span t t 0) _)
   where
@@ -225,4 +229,6 @@ module _ (code span : List ℕ) (s d t : ℕ) where
           downs-fits = rest-fits O D refl d₂ (omega arith) w from-own
 
           pub form-done : {d₄ : List ℕ} {r : ℕ} → Written d₃ c (fill 0 c D) d₄ r → Written d₀ 0 (fill 0 0 (formAt code span s d t)) d₄ r
-          form-done z = rest-done U (A ++ (O ++ D)) form-parts d₀ (omega arith) u (rest-done A (O ++ D) refl d₁ (omega arith) v (rest-done O D refl d₂ (omega arith) w z))
+          form-done z =
+              rest-done U (A ++ (O ++ D)) form-parts d₀ (omega arith) u
+              (rest-done A (O ++ D) refl d₁ (omega arith) v (rest-done O D refl d₂ (omega arith) w z))
