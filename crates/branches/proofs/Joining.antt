@@ -1,0 +1,193 @@
+-- Laws of joined factors: the word of joined factors is what is written of them, and two writings one after the other are one.
+use mathlib.Core.Path.{_≡_, refl, sym, ap, _∙_}
+use mathlib.Core.Bool.{Bool, true, false}
+use mathlib.Core.List.{List, [], _∷_, _++_, append-assoc, append-nil}
+use Prim.Native.Nat.{ℕ, _+_, _/_, _%_, _≤_, _<_}
+use native.Mathlib.Decide.{decLt}
+use native.Mathlib.Omega.{arith}
+use lib.ListN.{length, length-append}
+use lib.Dec.{ltb}
+use borrow.Author.Tests.{lt-ltb, le-ltb}
+use Rattle.meaning.specs.Basics.{pick}
+use Rattle.meaning.specs.Expression.{Expr, empty, self, child, parent, label, comp, inter, proj1, proj2, inv}
+use Rattle.meaning.specs.Number.{numF, num}
+use Rattle.meaning.specs.Normal.{joined, all, wordOf}
+use Rattle.groups.specs.Put.{put}
+use Rattle.groups.proofs.Put.{length-put, put-nil, put-append}
+use Rattle.branches.specs.Joining.{joint, run, fill, factor, Written}
+
+-- ------------------------------------------------------------------ words and their bytes
+num-some : (n : ℕ) → 1 ≤ length (num n)
+num-some n = go (decLt n 128)
+  where
+    go : (d : Dec (n < 128)) → 1 ≤ length (pick d (n ∷ []) ((128 + n % 128) ∷ numF n (n / 128)))
+    go (yes p) = omega arith
+    go (no q) = omega arith
+
+pub word-some : (e : Expr) → 1 ≤ length (wordOf e)
+word-some empty = omega arith
+word-some self = omega arith
+word-some child = omega arith
+word-some parent = omega arith
+word-some (label l) = num-some (9 + l)
+word-some (comp e f) = omega (arith, word-some e, length-append (wordOf e) (wordOf f ++ (4 ∷ [])))
+word-some (inter e f) = omega (arith, word-some e, length-append (wordOf e) (wordOf f ++ (7 ∷ [])))
+word-some (proj1 e) = omega (arith, word-some e, length-append (wordOf e) (5 ∷ []))
+word-some (proj2 e) = omega (arith, word-some e, length-append (wordOf e) (6 ∷ []))
+word-some (inv e) = omega (arith, word-some e, length-append (wordOf e) (8 ∷ []))
+
+joined-run : (x : Expr) (xs : List Expr) → wordOf (joined x xs) ≡ wordOf x ++ run true xs
+unfolding run
+joined-run x [] = simp append-nil
+joined-run x (y ∷ ys) = joined-run (comp x y) ys ∙ simp append-assoc
+
+-- "Factors are joined from the left (x y 4 z 4)."
+pub all-run : (x : Expr) (xs : List Expr) → wordOf (all (x ∷ xs)) ≡ run false (x ∷ xs)
+unfolding run
+all-run x xs = joined-run x xs
+
+-- the first factor of all goes to place `at`
+pub fill-first : (at : ℕ) (x : Expr) (xs : List Expr) → fill at at (x ∷ xs) ≡ wordOf (all (x ∷ xs))
+unfolding fill
+fill-first at x xs = let z : ltb at at ≡ false = le-ltb at at (omega arith) in ap (λ (b : Bool). run b (x ∷ xs)) z ∙ sym (all-run x xs)
+
+pub fill-nil : (from at : ℕ) → fill from at [] ≡ []
+unfolding fill run
+fill-nil from at = refl
+
+-- one factor and the sign that joins it
+pub fill-one : (from at : ℕ) (x : Expr) → fill from at (x ∷ []) ≡ factor from at (wordOf x)
+unfolding fill run factor
+fill-one from at x = simp append-nil
+
+run-append : (xs ys : List Expr) → run true (xs ++ ys) ≡ run true xs ++ run true ys
+unfolding run
+run-append [] ys = refl
+run-append (x ∷ xs) ys = rw (run-append xs ys) (simp append-assoc)
+
+-- factors behind factors: something stands before the later ones if it stood before the earlier ones or these are some
+pub fill-append : (from at : ℕ) (xs ys : List Expr) → from ≤ at → fill from at (xs ++ ys) ≡ fill from at xs ++ fill from (at + length (fill from at xs)) ys
+unfolding fill run
+fill-append from at [] ys l = let z : at + 0 ≡ at = omega arith in rw z
+fill-append from at (x ∷ xs) ys l = go (ltb from at)
+  where
+    go : (b : Bool) → wordOf x ++ (joint b ++ run true (xs ++ ys))
+        ≡ (wordOf x ++ (joint b ++ run true xs)) ++ run (ltb from (at + length (wordOf x ++ (joint b ++ run true xs)))) ys
+    go b =
+        let w = word-some x in
+        let n = length-append (wordOf x) (joint b ++ run true xs) in
+        let a : ℕ = at + length (wordOf x ++ (joint b ++ run true xs)) in
+        let z : ltb from a ≡ true = lt-ltb from a (omega arith) in
+        rw (z, run-append xs ys) (simp append-assoc)
+
+-- ------------------------------------------------------------------ writing
+-- something stands before, or nothing does
+pub joint-some : (from at : ℕ) → from < at → joint (ltb from at) ≡ 4 ∷ []
+joint-some from at l = rw (lt-ltb from at l)
+
+pub joint-none : (from at : ℕ) → at ≤ from → joint (ltb from at) ≡ []
+joint-none from at l = rw (le-ltb from at l)
+
+pub written-nil : (d : List ℕ) (at : ℕ) → Written d at [] d at
+written-nil d at = record { place = omega arith; bytes = sym (put-nil d at) }
+
+pub written-is : {d bs bs′ e : List ℕ} {at r : ℕ} → bs ≡ bs′ → Written d at bs e r → Written d at bs′ e r
+written-is q w = rw q at w
+
+-- two writings, one after the other
+pub written-then : {d xs d₁ ys d₂ : List ℕ} {at a r : ℕ} → Written d at xs d₁ a → Written d₁ a ys d₂ r → Written d at (xs ++ ys) d₂ r
+written-then {d} {xs} {d₁} {ys} {d₂} {at} {a} {r} v w =
+    record {
+      place = omega (arith, v .place, w .place, length-append xs ys);
+      bytes = w .bytes ∙ rw (v .bytes, v .place) (sym (put-append d at xs ys));
+    }
+
+pub written-length : {d bs e : List ℕ} {at r : ℕ} → Written d at bs e r → length e ≡ length d
+written-length {d} {bs} {e} {at} w = ap length (w .bytes) ∙ length-put d at bs
+
+pub written-reached : {d bs e : List ℕ} {from at r : ℕ} → from ≤ at → Written d at bs e r → from ≤ r
+written-reached {from = from} {at = at} {r = r} l w = omega (arith, w .place)
+
+-- a factor, and then the sign that joins it
+module _ (from at : ℕ) (bs : List ℕ) where
+  pub factor-first : (n : ℕ) → at + length (factor from at bs) ≤ n → at + length bs ≤ n
+  unfolding factor
+  factor-first n l = omega (arith, length-append bs (joint (ltb from at)))
+
+  pub factor-rest : (n a : ℕ) → a ≡ at + length bs → at + length (factor from at bs) ≤ n → a + length (joint (ltb from at)) ≤ n
+  unfolding factor
+  factor-rest n a p l = omega (arith, length-append bs (joint (ltb from at)))
+
+  pub factor-then : {d d₁ d₂ : List ℕ} {a r : ℕ} → Written d at bs d₁ a → Written d₁ a (joint (ltb from at)) d₂ r → Written d at (factor from at bs) d₂ r
+  unfolding factor
+  factor-then v w = written-then v w
+
+pub fill-child : (from at : ℕ) → fill from at (child ∷ []) ≡ factor from at (num 2)
+unfolding decLt
+fill-child from at = fill-one from at child
+
+pub fill-parent : (from at : ℕ) → fill from at (parent ∷ []) ≡ factor from at (num 3)
+unfolding decLt
+fill-parent from at = fill-one from at parent
+
+-- ------------------------------------------------------------------ factors in two parts
+module _ {xs : List Expr} (ys zs : List Expr) (e : xs ≡ ys ++ zs) (d : List ℕ) {from at : ℕ} (le : from ≤ at) where
+  both-parts : fill from at xs ≡ fill from at ys ++ fill from (at + length (fill from at ys)) zs
+  both-parts = ap (fill from at) e ∙ fill-append from at ys zs le
+
+  pub first-fits : at + length (fill from at xs) ≤ length d → at + length (fill from at ys) ≤ length d
+  first-fits l = omega (arith, ap length both-parts, length-append (fill from at ys) (fill from (at + length (fill from at ys)) zs))
+
+  module _ {d₁ : List ℕ} {a : ℕ} (v : Written d at (fill from at ys) d₁ a) where
+    parts : fill from at xs ≡ fill from at ys ++ fill from a zs
+    parts = rw (v .place) both-parts
+
+    pub rest-fits : at + length (fill from at xs) ≤ length d → a + length (fill from a zs) ≤ length d₁
+    rest-fits l = let p = v .place in let s = written-length v in omega (arith, ap length parts, length-append (fill from at ys) (fill from a zs))
+
+    pub rest-done : {d₂ : List ℕ} {r : ℕ} → Written d₁ a (fill from a zs) d₂ r → Written d at (fill from at xs) d₂ r
+    rest-done w = written-is (sym parts) (written-then v w)
+
+-- ------------------------------------------------------------------ a list of factors, part by part
+-- Of the factors xs, owed from place at₀ on, some stand in the room; those that are left, ys, belong to place `at`.
+pub record Left (d₀ : List ℕ) (from at₀ : ℕ) (xs : List Expr) (d : List ℕ) (at : ℕ) (ys : List Expr) : Type 0 where
+  pub reached : from ≤ at
+  pub same : length d ≡ length d₀
+  pub places : at + length (fill from at ys) ≡ at₀ + length (fill from at₀ xs)
+  pub bytes : put d at (fill from at ys) ≡ put d₀ at₀ (fill from at₀ xs)
+
+pub left-start : (d : List ℕ) (from at : ℕ) (xs ys : List Expr) → xs ≡ ys → from ≤ at → Left d from at xs d at ys
+left-start d from at xs ys e l = rw e (record { reached = l; same = refl; places = refl; bytes = refl })
+
+module _ {d₀ : List ℕ} {from at₀ : ℕ} {xs : List Expr} {d : List ℕ} {at : ℕ} where
+  pub left-is : {ys zs : List Expr} → ys ≡ zs → Left d₀ from at₀ xs d at ys → Left d₀ from at₀ xs d at zs
+  left-is e w = rw e at w
+
+  -- there is room for the next part
+  pub left-fits : (ys zs : List Expr) → Left d₀ from at₀ xs d at (ys ++ zs) → at₀ + length (fill from at₀ xs) ≤ length d₀
+      → at + length (fill from at ys) ≤ length d
+  left-fits ys zs w l =
+      let p = w .places in let s = w .same in
+      omega (arith, ap length (fill-append from at ys zs (w .reached)), length-append (fill from at ys) (fill from (at + length (fill from at ys)) zs))
+
+  -- the next part is written
+  pub left-step : (ys zs : List Expr) {d₁ : List ℕ} {r : ℕ} → Left d₀ from at₀ xs d at (ys ++ zs) → Written d at (fill from at ys) d₁ r
+      → Left d₀ from at₀ xs d₁ r zs
+  left-step ys zs {d₁} {r} w v =
+      let e = fill-append from at ys zs (w .reached) in
+      let p = v .place in let q = w .reached in let l = w .places in
+      record {
+        reached = omega arith;
+        same = written-length v ∙ w .same;
+        places = rw p (omega (arith, ap length e, length-append (fill from at ys) (fill from (at + length (fill from at ys)) zs)));
+        bytes = rw (p, v .bytes) (sym (put-append d at (fill from at ys) (fill from (at + length (fill from at ys)) zs))) ∙ ap (put d at) (sym e) ∙ w .bytes;
+      }
+
+  -- nothing is left
+  pub left-end : Left d₀ from at₀ xs d at [] → Written d₀ at₀ (fill from at₀ xs) d at
+  left-end w =
+      let n = fill-nil from at in let p = w .places in
+      record {
+        place = omega (arith, ap length n);
+        bytes = sym (put-nil d at) ∙ ap (put d at) (sym n) ∙ w .bytes;
+      }

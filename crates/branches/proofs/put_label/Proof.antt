@@ -1,0 +1,48 @@
+-- A wildcard writes nothing; code L + 1 is the sign 9 + L.
+use mathlib.Core.Path.{sym, ap, refl}
+use native.Mathlib.Omega.{arith}
+use lib.ListN.{length}
+use Rattle.branches.proofs.Joining.{written-nil, written-is}
+use Rattle.branches.proofs.Chains.{label-none, label-some}
+use borrow.Author.Needs.{needs}
+use Rattle.branches.proofs.put_label.Statement.{statement}
+use Rattle.branches.proofs.put_label.Tie as tie
+
+mul-x : tie.Need-mul-x
+mul-x c = search needs
+
+shared-slice-read-x : tie.Need-shared-slice-read-x
+shared-slice-read-x c = search needs
+
+returns : tie.Need-returns
+returns c = written-is (sym (label-none _ _ _ _ (c .if1 .taken))) (written-nil _ _)
+
+add-put-sign : tie.Need-add-put-sign
+add-put-sign c = search needs
+
+put-sign-requires : tie.Need-put-sign-requires
+put-sign-requires c κs =
+    let s = c .before .before .before .before .before in
+    let e = label-some (s .args .code .now) (s .args .u) (s .args .from) (s .args .at) _ refl (c .before .if1 .left) in
+    omega (arith, ap length e, s .pre .2)
+
+same-length : tie.Need-same-length
+same-length c = search needs
+
+returns-2 : tie.Need-returns-2
+returns-2 c =
+    let if1 = c .before .before .before .before .if1 in
+    let put-sign = c .before .before .put-sign in
+    written-is (sym (label-some _ _ _ _ _ refl (if1 .left))) (put-sign .ensures)
+
+pub put-label-spec : {M : Type 1} → statement M
+put-label-spec =
+    tie.close
+    (tie.spec
+    mul-x
+    shared-slice-read-x
+    returns
+    add-put-sign
+    put-sign-requires
+    same-length
+    returns-2)

@@ -1,0 +1,6 @@
+mod Walk
+mod Around
+mod Marks
+mod Steps
+mod Writing
+mod Form

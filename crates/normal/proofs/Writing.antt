@@ -1,0 +1,234 @@
+-- Writing the ways: what fits, and what stands in the room after each row.
+use mathlib.Core.Path.{_≡_, refl, sym, ap, _∙_}
+use mathlib.Core.List.{List, [], _∷_, _++_, append-assoc, append-nil}
+use Prim.Native.Nat.{ℕ, zero, suc, _+_, _≤_, _<_}
+use native.Mathlib.Decide.{ℕ-discrete}
+use native.Mathlib.Omega.{arith}
+use lib.ListN.{length, getD, length-append}
+use lib.Dec.{ltb}
+use borrow.Author.Tests.{ne-eqb}
+use Rattle.meaning.specs.Expression.{Expr, child, parent}
+use Rattle.meaning.specs.Number.{num}
+use Rattle.meaning.specs.Normal.{aboveFactor}
+use Rattle.rows.specs.Rows.{below}
+use Rattle.rows.proofs.Rows.{rows-top}
+use Rattle.branches.specs.Joining.{joint, fill, factor, Written}
+use Rattle.branches.specs.Factors.{Row, ownAt}
+use Rattle.branches.proofs.Joining.{fill-nil, fill-one, fill-first, fill-parent, factor-first, factor-rest, factor-then, written-nil}
+use Rattle.branches.proofs.Joining.{written-is, written-then, written-length, first-fits, rest-fits, rest-done, Left, left-is, left-fits, left-step}
+use Rattle.normal.specs.Ways.{Covers, Among, Part, Climb, upsAt, downsAt, wayAt, formAt}
+use Rattle.normal.proofs.Walk.{row-open, among-from, ups-step, downs-step, way-step, ups-end, downs-end, way-end}
+use Rattle.normal.proofs.Steps.{covers-self, parent-less, parent-covers, parent-among, parent-least}
+
+-- ------------------------------------------------------------------ up from s to t
+module _ {code kids span up : List ℕ} {t s : ℕ} (C : Climb code kids span up t s) where
+  pub climb-row : (x : ℕ) → Covers span x s → Row code kids span x
+  climb-row x v = record { mark = C .mark; up = up; n = C .n; rows = C .rows; within = omega (arith, v .from, C .within) }
+
+  pub rise-start : (d : List ℕ) → (t ≤ s) × Covers span s s × Written d 0 (fill 0 0 (upsAt code span s s)) d 0
+  rise-start d =
+      (C .covers .from, covers-self (C .rows) s (C .within), written-is (sym (ap (fill 0 0) (ups-end (C .rows) s (C .within)) ∙ fill-nil 0 0)) (written-nil d 0))
+
+  -- one row further up: x is above or at s, below t
+  module _ (x : ℕ) (tx : t ≤ x) (v : Covers span x s) (ne : x ≡ t → ⊥) where
+    top : 0 < x
+    top = omega arith
+
+    pub rise-less : getD up x 0 < x
+    rise-less = parent-less (C .rows) x s (C .within) v top
+
+    pub rise-covers : Covers span (getD up x 0) s
+    rise-covers = parent-covers (C .rows) x s (C .within) v top
+
+    pub rise-from : t ≤ getD up x 0
+    rise-from = parent-least (C .rows) x s (C .within) v top t (C .covers) (omega arith)
+
+    rise-step : upsAt code span s (getD up x 0) ≡ upsAt code span s x ++ (ownAt code span s s x ++ (parent ∷ []))
+    rise-step =
+        let l = rise-less in let b : x < C .n = omega (arith, v .from, C .within) in
+        ups-step (C .rows) (getD up x 0) x (omega arith) b (parent-among (C .rows) x s (C .within) v top) s v
+
+  -- what is written up to row x is the beginning of what is owed
+  ups-begin : (k x : ℕ) → x ≤ k → t ≤ x → Covers span x s → (zs : List Expr) × (upsAt code span s t ≡ upsAt code span s x ++ zs)
+  ups-begin zero x l tx v = let z : x ≡ t = omega arith in ([], rw z (sym (append-nil (upsAt code span s t))))
+  ups-begin (suc k) x l tx v =
+      go (ℕ-discrete x t) (λ ne. let m = rise-less x tx v ne in ups-begin k (getD up x 0) (omega arith) (rise-from x tx v ne) (rise-covers x tx v ne))
+    where
+      go : Dec (x ≡ t) → ((x ≡ t → ⊥) → (zs : List Expr) × (upsAt code span s t ≡ upsAt code span s (getD up x 0) ++ zs))
+          → (zs : List Expr) × (upsAt code span s t ≡ upsAt code span s x ++ zs)
+      go (yes z) f = ([], rw z (sym (append-nil (upsAt code span s t))))
+      go (no ne) f =
+          let (zs, e) = f ne in (
+            (ownAt code span s s x ++ (parent ∷ [])) ++ zs,
+            e ∙ ap (λ (l : List Expr). l ++ zs) (rise-step x tx v ne) ∙ append-assoc (upsAt code span s x) (ownAt code span s s x ++ (parent ∷ [])) zs,
+          )
+
+  module _ (x : ℕ) (tx : t ≤ x) (v : Covers span x s) (ne : x ≡ t → ⊥)
+      (d₀ : List ℕ) {d : List ℕ} {at : ℕ} (w : Written d₀ 0 (fill 0 0 (upsAt code span s x)) d at) where
+    abbrev own : List Expr
+    own = ownAt code span s s x
+
+    later : List Expr
+    later = ups-begin (getD up x 0) (getD up x 0) (omega arith) (rise-from x tx v ne) (rise-covers x tx v ne) .0
+
+    rise-parts : upsAt code span s t ≡ upsAt code span s x ++ (own ++ ((parent ∷ []) ++ later))
+    unfolding later
+    rise-parts =
+        ups-begin (getD up x 0) (getD up x 0) (omega arith) (rise-from x tx v ne) (rise-covers x tx v ne) .1
+        ∙ ap (λ (l : List Expr). l ++ later) (rise-step x tx v ne) ∙ simp append-assoc
+
+    module _ (l : length (fill 0 0 (upsAt code span s t)) ≤ length d₀) where
+      rest-of-way : at + length (fill 0 at (own ++ ((parent ∷ []) ++ later))) ≤ length d
+      rest-of-way = rest-fits (upsAt code span s x) (own ++ ((parent ∷ []) ++ later)) rise-parts d₀ (omega arith) w (omega arith)
+
+      pub rise-own : at + length (fill 0 at (ownAt code span s s x)) ≤ length d
+      rise-own = first-fits own ((parent ∷ []) ++ later) refl d (omega arith) rest-of-way
+
+      pub rise-parent : {d₁ : List ℕ} {a : ℕ} → Written d at (fill 0 at (ownAt code span s s x)) d₁ a → a + length (factor 0 a (num 3)) ≤ length d₁
+      rise-parent {d₁} {a} y =
+          rw (← fill-parent 0 a) (first-fits (parent ∷ []) later refl d₁ (omega arith) (rest-fits own ((parent ∷ []) ++ later) refl d (omega arith) y rest-of-way))
+
+    pub rise-next : {d₁ d₂ : List ℕ} {a r : ℕ} → Written d at (fill 0 at (ownAt code span s s x)) d₁ a → Written d₁ a (factor 0 a (num 3)) d₂ r
+        → Written d₀ 0 (fill 0 0 (upsAt code span s (getD up x 0))) d₂ r
+    rise-next {a = a} y z =
+        rest-done (upsAt code span s x) (own ++ (parent ∷ [])) (rise-step x tx v ne) d₀ (omega arith) w
+        (rest-done own (parent ∷ []) refl d (omega arith) y (written-is (sym (fill-parent 0 a)) z))
+
+-- ------------------------------------------------------------------ down, by two parts of the factors a row
+module _ {d₀ : List ℕ} {from at₀ : ℕ} {all-of : List Expr} {d : List ℕ} {at : ℕ} {xs : List Expr} (ys zs ws : List Expr) (e : xs ≡ ys ++ (zs ++ ws))
+    (L : Left d₀ from at₀ all-of d at xs) where
+  pub part-first : at₀ + length (fill from at₀ all-of) ≤ length d₀ → at + length (fill from at ys) ≤ length d
+  part-first l = left-fits ys (zs ++ ws) (left-is e L) l
+
+  module _ {d₁ : List ℕ} {a : ℕ} (w : Written d at (fill from at ys) d₁ a) where
+    pub part-second : at₀ + length (fill from at₀ all-of) ≤ length d₀ → a + length (fill from a zs) ≤ length d₁
+    part-second l = left-fits zs ws (left-step ys (zs ++ ws) (left-is e L) w) l
+
+    pub part-done : {d₂ : List ℕ} {r : ℕ} → Written d₁ a (fill from a zs) d₂ r → Left d₀ from at₀ all-of d₂ r ws
+    part-done v = left-step zs ws (left-step ys (zs ++ ws) (left-is e L) w) v
+
+-- a row on the way down, and its child
+module _ {code kids span : List ℕ} {u : ℕ} (R : Row code kids span u) where
+  pub row-part : Part span u
+  row-part = record { n = R .n; laid = R .rows .laid; few = R .rows .few; spans = R .rows .spans; within = R .within }
+
+  row-reach : {x : ℕ} → Covers span u x → x < R .n
+  row-reach w = omega (arith, w .to, row-open (R .rows) u (R .within) .inside)
+
+  module _ {c x : ℕ} (a : Among c (below span u)) (v : Covers span c x) (w : Covers span u x) where
+    within : c < R .n
+    within = omega (arith, v .from, row-reach w)
+
+    pub child-row : Row code kids span c
+    child-row = record { mark = R .mark; up = R .up; n = R .n; rows = R .rows; within = within }
+
+    pub child-behind : u < c
+    child-behind = among-from span (suc u) (u + getD span u 0) (below span u) (row-open (R .rows) u (R .within) .held) c a
+
+    pub down-parts : downsAt code span x u ≡ (child ∷ []) ++ (ownAt code span x x c ++ downsAt code span x c)
+    down-parts = downs-step (R .rows) u c (R .within) within a x v
+
+    pub way-parts : (u ≡ x → ⊥) → wayAt code span x u ≡ ownAt code span x x u ++ ((child ∷ []) ++ wayAt code span x c)
+    way-parts ne = way-step (R .rows) u c (R .within) within a x v ne
+
+  -- the way starts at the top, where everything lies below
+  pub top-row : Row code kids span 0
+  top-row = record { mark = R .mark; up = R .up; n = R .n; rows = R .rows; within = omega (arith, R .within) }
+
+  pub top-covers : Covers span 0 u
+  top-covers =
+      record { from = omega arith; to = omega (arith, R .within, rows-top code (R .mark) kids span (R .up) (R .n) (R .rows) (omega (arith, R .within)) .span-all) }
+
+  -- the ways have an end
+  pub downs-nil : {d : ℕ} → u ≡ d → downsAt code span d u ≡ []
+  downs-nil e = rw (← e) (downs-end (R .rows) u (R .within))
+
+  pub way-nil : {t : ℕ} → u ≡ t → wayAt code span t u ≡ []
+  way-nil e = rw (← e) (way-end (R .rows) u)
+
+-- ------------------------------------------------------------------ the way above
+above-cons : (from at : ℕ) (y : Expr) (ys : List Expr) → fill from at (aboveFactor (y ∷ ys) []) ≡ factor from at (fill at at (y ∷ ys) ++ (6 ∷ []))
+above-cons from at y ys = fill-one from at _ ∙ ap (λ (l : List ℕ). factor from at (l ++ (6 ∷ []))) (sym (fill-first at y ys))
+
+pub above-none : (code span : List ℕ) (from at t : ℕ) → t ≡ 0 → fill from at (aboveFactor (wayAt code span t 0) []) ≡ []
+unfolding wayAt
+above-none code span from at t z = rw z (fill-nil from at)
+
+pub above-some : (code span : List ℕ) (from at t : ℕ) → (t ≡ 0 → ⊥)
+    → fill from at (aboveFactor (wayAt code span t 0) []) ≡ factor from at (fill at at (wayAt code span t 0) ++ (6 ∷ []))
+unfolding wayAt
+above-some code span from at t ne = rw (ne-eqb 0 t (λ q. ne (sym q))) (go (ownAt code span t t 0) _)
+  where
+    go : (ys zs : List Expr) → fill from at (aboveFactor (ys ++ (child ∷ zs)) []) ≡ factor from at (fill at at (ys ++ (child ∷ zs)) ++ (6 ∷ []))
+    go [] zs = above-cons from at child zs
+    go (y ∷ ys) zs = above-cons from at y (ys ++ (child ∷ zs))
+
+module _ (code span : List ℕ) (at t : ℕ) (ne : t ≡ 0 → ⊥) (d : List ℕ) where
+  abbrev way : List ℕ
+  way = fill at at (wayAt code span t 0)
+
+  module _ (l : at + length (fill 0 at (aboveFactor (wayAt code span t 0) [])) ≤ length d) where
+    l′ : at + length (way ++ (6 ∷ [])) ≤ length d
+    l′ = factor-first 0 at (way ++ (6 ∷ [])) _ (rw (above-some code span 0 at t ne) at l)
+
+    pub way-fits : at + length (fill at at (wayAt code span t 0)) ≤ length d
+    way-fits = omega (arith, l′, length-append way (6 ∷ []))
+
+    module _ {d₁ : List ℕ} {a : ℕ} (v : Written d at (fill at at (wayAt code span t 0)) d₁ a) where
+      pub six-fits : a < length d₁
+      six-fits = let s = written-length v in let p = v .place in omega (arith, l′, length-append way (6 ∷ []))
+
+      pub above-joint : {d₂ : List ℕ} {b : ℕ} → Written d₁ a (6 ∷ []) d₂ b → b + length (joint (ltb 0 at)) ≤ length d₂
+      above-joint {d₂} {b} w =
+          let z = written-then v w in
+          let s = written-length z in
+          factor-rest 0 at (way ++ (6 ∷ [])) (length d₂) b (z .place) (omega (arith, rw (above-some code span 0 at t ne) at l))
+
+  pub above-done : {d₁ d₂ d₃ : List ℕ} {a b r : ℕ} → Written d at (fill at at (wayAt code span t 0)) d₁ a → Written d₁ a (6 ∷ []) d₂ b
+      → Written d₂ b (joint (ltb 0 at)) d₃ r → Written d at (fill 0 at (aboveFactor (wayAt code span t 0) [])) d₃ r
+  above-done v w z = written-is (sym (above-some code span 0 at t ne)) (factor-then 0 at (fill at at (wayAt code span t 0) ++ (6 ∷ [])) (written-then v w) z)
+
+-- ------------------------------------------------------------------ all factors
+module _ (code span : List ℕ) (s d t : ℕ) where
+  abbrev U : List Expr
+  U = upsAt code span s t
+
+  abbrev A : List Expr
+  A = aboveFactor (wayAt code span t 0) []
+
+  abbrev O : List Expr
+  O = ownAt code span s d t
+
+  abbrev D : List Expr
+  D = downsAt code span d t
+
+  form-parts : formAt code span s d t ≡ U ++ (A ++ (O ++ D))
+  unfolding formAt
+  form-parts = refl
+
+  module _ (d₀ : List ℕ) (l : length (fill 0 0 (formAt code span s d t)) ≤ length d₀) where
+    pub ups-fits : length (fill 0 0 U) ≤ length d₀
+    ups-fits = omega (arith, first-fits U (A ++ (O ++ D)) form-parts d₀ {from = 0} {at = 0} (omega arith) (omega arith))
+
+    module _ {d₁ : List ℕ} {a : ℕ} (u : Written d₀ 0 (fill 0 0 U) d₁ a) where
+      from-above : a + length (fill 0 a (A ++ (O ++ D))) ≤ length d₁
+      from-above = rest-fits U (A ++ (O ++ D)) form-parts d₀ (omega arith) u (omega arith)
+
+      pub above-fits : a + length (fill 0 a A) ≤ length d₁
+      above-fits = first-fits A (O ++ D) refl d₁ (omega arith) from-above
+
+      module _ {d₂ : List ℕ} {b : ℕ} (v : Written d₁ a (fill 0 a A) d₂ b) where
+        from-own : b + length (fill 0 b (O ++ D)) ≤ length d₂
+        from-own = rest-fits A (O ++ D) refl d₁ (omega arith) v from-above
+
+        pub own-fits : b + length (fill 0 b O) ≤ length d₂
+        own-fits = first-fits O D refl d₂ (omega arith) from-own
+
+        module _ {d₃ : List ℕ} {c : ℕ} (w : Written d₂ b (fill 0 b O) d₃ c) where
+          pub downs-fits : c + length (fill 0 c D) ≤ length d₃
+          downs-fits = rest-fits O D refl d₂ (omega arith) w from-own
+
+          pub form-done : {d₄ : List ℕ} {r : ℕ} → Written d₃ c (fill 0 c D) d₄ r → Written d₀ 0 (fill 0 0 (formAt code span s d t)) d₄ r
+          form-done z =
+              rest-done U (A ++ (O ++ D)) form-parts d₀ (omega arith) u
+              (rest-done A (O ++ D) refl d₁ (omega arith) v (rest-done O D refl d₂ (omega arith) w z))

@@ -1,0 +1,95 @@
+-- The ways of a normal form over rows: which row is t, and the factors of each way.
+use mathlib.Core.Path.{_≡_}
+use mathlib.Core.Logic.{_⊎_}
+use mathlib.Core.Bool.{Bool, true, cond}
+use mathlib.Core.List.{List, [], _∷_, _++_}
+use Prim.Native.Nat.{ℕ, _+_, _/_, _%_, _≤_, _<_}
+use lib.ListN.{length, getD}
+use lib.Dec.{eqb}
+use Rattle.meaning.specs.Expression.{Expr, child}
+use Rattle.meaning.specs.Tree.{Forest, bare, tree, Tag}
+use Rattle.meaning.specs.Normal.{labelled, dstIn, off, ups, downs, aboveFactor}
+use Rattle.theory.proofs.Count.{count, src, dst}
+use Rattle.rows.specs.Rows.{shape, treeRows, Holds, Rows}
+use Rattle.branches.specs.Factors.{under, ownAt}
+
+-- the rows of a tree query, which has "a source s and a destination d", or no rows
+pub record QueryRows (code mark kids span up : List ℕ) (n : ℕ) : Type 0 where
+  pub rows : Rows code mark kids span up n
+  pub one-src : 0 < n → count src (treeRows code mark span n) ≡ 1
+  pub one-dst : 0 < n → count dst (treeRows code mark span n) ≡ 1
+
+-- row x lies at or below row u
+pub record Covers (span : List ℕ) (u x : ℕ) : Type 0 where
+  pub from : u ≤ x
+  pub to : x < u + getD span u 0
+
+-- row u is one of some rows that are laid out as a tree
+pub record Part (span : List ℕ) (u : ℕ) : Type 0 where
+  pub n : ℕ
+  pub laid : Holds span 0 n (shape span n)
+  pub few : n ≤ 256
+  pub spans : n ≤ length span
+  pub within : u < n
+
+-- rows s and d are two of some rows that are a tree
+pub record Pair (span up : List ℕ) (s d : ℕ) : Type 0 where
+  pub code : List ℕ
+  pub mark : List ℕ
+  pub kids : List ℕ
+  pub n : ℕ
+  pub rows : Rows code mark kids span up n
+  pub s-in : s < n
+  pub d-in : d < n
+
+-- row x lies at or below row u in some rows that are a tree
+pub record Climb (code kids span up : List ℕ) (u x : ℕ) : Type 0 where
+  pub mark : List ℕ
+  pub n : ℕ
+  pub rows : Rows code mark kids span up n
+  pub within : x < n
+  pub covers : Covers span u x
+
+-- row c is the first row of one of the trees
+abbrev pub Among : ℕ → Forest ℕ → Type 0
+Among c bare = ⊥
+Among c (tree i k r) = (c ≡ i) ⊎ Among c r
+
+-- "let t be the lowest node above or at both s and d"
+pub record Lowest (span : List ℕ) (s d t : ℕ) : Type 0 where
+  pub to-s : Covers span t s
+  pub to-d : Covers span t d
+  pub least : (v : ℕ) → Covers span v s → Covers span v d → v ≤ t
+
+-- the mark of row u has s (bit 1) or d (bit 2): "mark (0 none, 1 s, 2 d, 3 both)"
+unfoldable pub bears : List ℕ → ℕ → ℕ → Bool
+bears mark bit u = eqb (getD mark u 0 / bit % 2) 1
+
+-- some row from u up to n does
+pub record Borne (mark : List ℕ) (bit u n : ℕ) : Type 0 where
+  pub row : ℕ
+  pub low : u ≤ row
+  pub high : row < n
+  pub is : bears mark bit row ≡ true
+
+-- "for each node from s up to just below t, its own factors and then parent"
+unfoldable pub upsAt : List ℕ → List ℕ → ℕ → ℕ → List Expr
+upsAt code span s t = ups (under code span s s t)
+
+-- "for each node below t down to d, child and its own factors"
+unfoldable pub downsAt : List ℕ → List ℕ → ℕ → ℕ → List Expr
+downsAt code span d t = downs (under code span d d t)
+
+-- "the way from the top down to t (own factors of each node above t, each followed by child)"; t is the node that bears d here
+unfoldable pub wayTo : Forest Tag → List Expr
+wayTo bare = []
+wayTo (tree a k r) = cond (dstIn a k) (cond (a .dst) [] (labelled (a .lab) (off dstIn k (child ∷ wayTo k)))) (wayTo r)
+
+-- that way from row x on
+unfoldable pub wayAt : List ℕ → List ℕ → ℕ → ℕ → List Expr
+wayAt code span t x = cond (eqb x t) [] (ownAt code span t t x ++ (child ∷ wayTo (under code span t t x)))
+
+-- the factors in order: up from s, the way above, t's own factors, down to d
+unfoldable pub formAt : List ℕ → List ℕ → ℕ → ℕ → ℕ → List Expr
+formAt code span s d t =
+    upsAt code span s t ++ (aboveFactor (wayAt code span t 0) [] ++ (ownAt code span s d t ++ downsAt code span d t))

@@ -1,0 +1,203 @@
+// The normal form of rows in image order, written into the caller's room: up from s to t, the way above t, t's own factors, down to d.
+// The first factor of all goes to place 0 of the room, so a factor that goes to a later place is joined to what stands before it.
+ghost use mathlib.Core.Path.{_≡_};
+ghost use mathlib.Core.Bool.{true};
+ghost use mathlib.Core.List.{[]};
+ghost use Prim.Native.Nat.{_+_, _<_, _≤_};
+ghost use lib.ListN.{length, getD};
+ghost use Rattle.meaning.specs.Normal.{normal, aboveFactor, wordOf};
+ghost use Rattle.rows.specs.Rows.{treeRows, below};
+ghost use Rattle.groups.specs.Put.{put};
+ghost use Rattle.branches.specs.Joining.{fill, Written};
+ghost use Rattle.branches.specs.Factors.{Row};
+ghost use Rattle.normal.specs.Ways.{QueryRows, Covers, Part, Pair, Climb, Lowest, Among, Borne, bears, upsAt, downsAt, wayAt, formAt};
+
+// The row that is s (bit 1), or d (bit 2).
+fn marked(mark: &[u8], n: usize, bit: u8) -> usize
+    requires { ⌜ (0 < bit) × (n ≤ length (now mark)) × Borne (now mark) bit 0 n ⌝ }
+    ensures { λ r. ⌜ (r < n) × (bears (now (mark .entry)) bit r ≡ true) ⌝ }
+{
+    let mut u: usize = 0;
+    loop {
+        if mark[u] / bit % 2 == 1 {
+            return u;
+        }
+        u += 1;
+    }
+}
+
+// The parent of row u.
+fn parent(up: &[u16], u: usize) -> usize
+    requires { ⌜ u < length (now up) ⌝ }
+    ensures { λ r. ⌜ r ≡ getD (now (up .entry)) u 0 ⌝ }
+{
+    up[u] as usize
+}
+
+// "Let t be the lowest node above or at both s and d": up from s to the first row that holds d.
+fn lowest(span: &[u16], up: &[u16], s: usize, d: usize) -> usize
+    requires { ⌜ Pair (now span) (now up) s d ⌝ }
+    ensures { λ r. ⌜ Lowest (now (span .entry)) s d r ⌝ }
+{
+    let mut t = s;
+    loop {
+        if branches::holds(span, t, d) {
+            return t;
+        }
+        t = parent(up, t);
+    }
+}
+
+// The child of row u at or below which row x lies.
+fn child_to(span: &[u16], u: usize, x: usize) -> usize
+    requires { ⌜ Part (now span) u × (u < x) × Covers (now span) u x ⌝ }
+    ensures { λ r. ⌜ Among r (below (now (span .entry)) u) × Covers (now (span .entry)) r x ⌝ }
+{
+    let mut c = u + 1;
+    loop {
+        let next = c + branches::span_at(span, c);
+        if x < next {
+            return c;
+        }
+        c = next;
+    }
+}
+
+// "For each node from s up to just below t, its own factors and then parent."
+fn rise(
+    code: &[u32],
+    kids: &[u16],
+    span: &[u16],
+    up: &[u16],
+    s: usize,
+    t: usize,
+    room: &mut [u8],
+) -> usize
+    requires { ⌜ Climb (now code) (now kids) (now span) (now up) t s × (length (fill 0 0 (upsAt (now code) (now span) s t)) ≤ length (now room)) ⌝ }
+    ensures { λ r. ⌜ Written (now (room .entry)) 0 (fill 0 0 (upsAt (now (code .entry)) (now (span .entry)) s t)) (now (room .exit)) r ⌝ }
+{
+    let mut x = s;
+    let mut at: usize = 0;
+    while x != t {
+        let end = branches::own(code, kids, span, x, s, s, room, 0, at);
+        at = branches::put_sign(room, 0, end, 3);
+        x = parent(up, x);
+    }
+    at
+}
+
+// "The way from the top down to t (own factors of each node above t, each followed by child)."
+fn way(code: &[u32], kids: &[u16], span: &[u16], t: usize, room: &mut [u8], from: usize) -> usize
+    requires { ⌜ Row (now code) (now kids) (now span) t × (from + length (fill from from (wayAt (now code) (now span) t 0)) ≤ length (now room)) ⌝ }
+    ensures { λ r. ⌜ Written (now (room .entry)) from (fill from from (wayAt (now (code .entry)) (now (span .entry)) t 0)) (now (room .exit)) r ⌝ }
+{
+    let mut x: usize = 0;
+    let mut at = from;
+    while x != t {
+        let c = child_to(span, x, t);
+        let end = branches::own(code, kids, span, x, t, t, room, from, at);
+        at = branches::put_sign(room, from, end, 2);
+        x = c;
+    }
+    at
+}
+
+// "If t is not the top, one second projection" of that way.
+fn above(code: &[u32], kids: &[u16], span: &[u16], t: usize, room: &mut [u8], at: usize) -> usize
+    requires { ⌜ Row (now code) (now kids) (now span) t × (at + length (fill 0 at (aboveFactor (wayAt (now code) (now span) t 0) [])) ≤ length (now room)) ⌝ }
+    ensures { λ r. ⌜ Written (now (room .entry)) at (fill 0 at (aboveFactor (wayAt (now (code .entry)) (now (span .entry)) t 0) [])) (now (room .exit)) r ⌝ }
+{
+    if t == 0 {
+        return at;
+    }
+    let end = way(code, kids, span, t, room, at);
+    let projected = groups::put_byte(room, end, 6);
+    branches::join(room, 0, at, projected)
+}
+
+// "For each node below t down to d, child and its own factors."
+fn fall(
+    code: &[u32],
+    kids: &[u16],
+    span: &[u16],
+    t: usize,
+    d: usize,
+    room: &mut [u8],
+    at: usize,
+) -> usize
+    requires { ⌜ Row (now code) (now kids) (now span) t × Covers (now span) t d × (at + length (fill 0 at (downsAt (now code) (now span) d t)) ≤ length (now room)) ⌝ }
+    ensures { λ r. ⌜ Written (now (room .entry)) at (fill 0 at (downsAt (now (code .entry)) (now (span .entry)) d t)) (now (room .exit)) r ⌝ }
+{
+    let mut x = t;
+    let mut place = at;
+    while x != d {
+        x = child_to(span, x, d);
+        let end = branches::put_sign(room, 0, place, 2);
+        place = branches::own(code, kids, span, x, d, d, room, 0, end);
+    }
+    place
+}
+
+// "The factors, in order", joined from the left.
+fn factors(
+    code: &[u32],
+    kids: &[u16],
+    span: &[u16],
+    up: &[u16],
+    s: usize,
+    d: usize,
+    t: usize,
+    room: &mut [u8],
+) -> usize
+    requires { ⌜ Climb (now code) (now kids) (now span) (now up) t s × Covers (now span) t d × (length (fill 0 0 (formAt (now code) (now span) s d t)) ≤ length (now room)) ⌝ }
+    ensures { λ r. ⌜ Written (now (room .entry)) 0 (fill 0 0 (formAt (now (code .entry)) (now (span .entry)) s d t)) (now (room .exit)) r ⌝ }
+{
+    let risen = rise(code, kids, span, up, s, t, room);
+    let met = above(code, kids, span, t, room, risen);
+    let end = branches::own(code, kids, span, t, s, d, room, 0, met);
+    fall(code, kids, span, t, d, room, end)
+}
+
+// The normal form of n rows; no rows are empty, the word 0. "With no factor at all the word is 1."
+pub fn write_form(
+    code: &[u32],
+    mark: &[u8],
+    kids: &[u16],
+    span: &[u16],
+    up: &[u16],
+    n: usize,
+    room: &mut [u8],
+) -> usize
+    requires { ⌜ QueryRows (now code) (now mark) (now kids) (now span) (now up) n ⌝ }
+    requires { ⌜ length (wordOf (normal (treeRows (now code) (now mark) (now span) n))) ≤ length (now room) ⌝ }
+    ensures { λ r. ⌜ r ≡ length (wordOf (normal (treeRows (now (code .entry)) (now (mark .entry)) (now (span .entry)) n))) ⌝ }
+    ensures { λ _. ⌜ now (room .exit) ≡ put (now (room .entry)) 0 (wordOf (normal (treeRows (now (code .entry)) (now (mark .entry)) (now (span .entry)) n))) ⌝ }
+{
+    if n == 0 {
+        return groups::put_byte(room, 0, 0);
+    }
+    let s = marked(mark, n, 1);
+    let d = marked(mark, n, 2);
+    let t = lowest(span, up, s, d);
+    let end = factors(code, kids, span, up, s, d, t, room);
+    if end == 0 {
+        return groups::put_byte(room, 0, 1);
+    }
+    end
+}
+
+// The length of the normal form, found by writing it where there is always room for it: "The normal form has at most 2,048 bytes."
+pub fn form_length(
+    code: &[u32],
+    mark: &[u8],
+    kids: &[u16],
+    span: &[u16],
+    up: &[u16],
+    n: usize,
+) -> usize
+    requires { ⌜ QueryRows (now code) (now mark) (now kids) (now span) (now up) n ⌝ }
+    ensures { λ r. ⌜ r ≡ length (wordOf (normal (treeRows (now (code .entry)) (now (mark .entry)) (now (span .entry)) n))) ⌝ }
+{
+    let mut room = [0u8; 2048];
+    write_form(code, mark, kids, span, up, n, &mut room)
+}
