@@ -9,3 +9,5 @@ mod Parts
 mod Operands
 mod Pushing
 mod Combining
+mod Taking
+mod Reading

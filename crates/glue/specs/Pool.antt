@@ -1,6 +1,7 @@
 -- The pending operands in one pool of rows: the rows of operand k start at entry k of `first` and end before entry k + 1, its marks are the
 -- entries k of `s` and `d`, and its links count from its own first row. An operand without rows is empty.
 use mathlib.Core.Path.{_≡_}
+use mathlib.Core.Logic.{_≢_}
 use mathlib.Core.Bool.{Bool, true, false}
 use mathlib.Core.Option.{Option}
 use mathlib.Core.List.{List, [], _∷_, map}
@@ -10,7 +11,9 @@ use Rattle.meaning.specs.Basics.{mapped}
 use Rattle.meaning.specs.Expression.{Expr, steps}
 use Rattle.meaning.specs.TreeQuery.{Query}
 use Rattle.meaning.specs.Gluing.{composed, intersected, two, plain}
+use Rattle.meaning.specs.Number.{largestLabel}
 use Rattle.meaning.specs.Word.{Pending, takes, answered}
+use Rattle.rows.specs.Rows.{noRow}
 use Rattle.theory.proofs.Plain.{TreeO}
 use Rattle.glue.specs.declared.gluing.Built.{Built}
 use Rattle.glue.specs.Rows.{part, builtOf}
@@ -91,3 +94,18 @@ pub record Holds (p : Pool) (n : ℕ) (st : Pending) : Type 0 where
 -- a sign that the word's check lets pass
 abbrev pub Passes : Pool → ℕ → ℕ → Type 0
 Passes p n sign = (st : Pending) × (st′ : Pending) × (at : ℕ) × Holds p n st × (takes sign st at ≡ answered st′)
+
+-- ------------------------------------------------------------------ what is built
+-- the rows of r are a tree, or there are none; the marks are among them
+pub record PlainRows (r : Built) (P L : List ℕ) : Type 0 where
+  pub few : r .rows ≤ 256
+  pub parents : r .rows ≤ length P
+  pub codes : r .rows ≤ length L
+  pub labels : (i : ℕ) → i < r .rows → getD L i 0 ≤ suc largestLabel
+  pub sIn : r .rows ≢ 0 → r .s < r .rows
+  pub dIn : r .rows ≢ 0 → r .d < r .rows
+  pub level : ℕ → ℕ
+  pub linked : (i : ℕ) → i < r .rows → getD P i 0 ≢ noRow → (getD P i 0 < r .rows) × (level i ≡ suc (level (getD P i 0)))
+  pub top : ℕ
+  pub topLevel : level top ≡ 0
+  pub single : (i : ℕ) → i < r .rows → getD P i 0 ≡ noRow → i ≡ top

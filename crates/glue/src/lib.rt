@@ -4,6 +4,5 @@
 // A row that is glued away is taken out at once, so that rows are used again: 255 steps and 256 pending operands never need more than 511.
 pub mod merging; // merging.rt: one row stands for two
 pub mod gluing; // gluing.rt: level by level, between two trees and inside one
-
-
 pub mod pool; // pool.rt: the pending operands
+pub mod build; // build.rt: one sign, and the whole word

@@ -1,0 +1,180 @@
+-- An accepted word read once more: the pool holds what is pending, sign by sign, and at the end the plain tree query of the word's expression.
+use mathlib.Core.Path.{_≡_, refl, sym, ap, subst, _∙_}
+use mathlib.Core.Logic.{_≢_}
+use mathlib.Core.Option.{Option, none, some}
+use mathlib.Core.List.{List, [], _∷_, map}
+use Prim.Native.Nat.{ℕ, zero, suc, _+_, _-_, _≤_, _<_}
+use native.Mathlib.Decide.{ℕ-discrete}
+use native.Mathlib.Omega.{arith}
+use lib.ListN.{length, getD, set, length-set}
+use lib.Seq.{getD-set-same}
+use Rattle.meaning.specs.Expression.{Expr}
+use Rattle.meaning.specs.Number.{largestLabel, broken, readNumber}
+use Rattle.meaning.specs.TreeQuery.{lab, node, Query, TreeQuery}
+use Rattle.meaning.specs.Gluing.{plain}
+use Rattle.meaning.specs.Word.{answered, andThen, Pending, takes, readWord}
+use Rattle.rows.specs.Rows.{labOf, noRow}
+use Rattle.theory.proofs.Plain.{TreeO, AtMost, RowsIn, plain-means, means-tree, few-nodes, plain-labels}
+use Rattle.theory.proofs.Limits.{InRange}
+use Rattle.theory.proofs.Accepted.{accepted}
+use Rattle.word.specs.Answer.{gotOf}
+use Rattle.word.specs.declared.number.Read.{Read}
+use Rattle.word.specs.declared.number.Read.the-variants.{Broken}
+use Rattle.word.proofs.Numbers.{NumberAt}
+use Rattle.word.proofs.Run.{runFrom, nothingPending}
+use Rattle.word.proofs.Accepted.{accepted-start, accepted-end, accepted-number, accepted-sign}
+use Rattle.glue.specs.declared.gluing.Built.{Built}
+use Rattle.glue.specs.Rows.{parentOf, table, query, part, builtOf}
+use Rattle.glue.specs.Pool.{Pool, pool, operand, stack, Sound, Stands, Holds, Passes, PlainRows}
+use Rattle.glue.proofs.Codes.{parent-none, parent-some, length-table, at-table, row-table, live-below, rows-some}
+use Rattle.glue.proofs.Taking.{holds-length}
+
+-- at place `at` the n operands of the pool are those that are pending
+pub record Reading (w : List ℕ) (p : Pool) (n at : ℕ) : Type 0 where
+  pub e : Expr
+  pub word : readWord w ≡ answered e
+  pub st : Pending
+  pub rest : runFrom w at st ≡ answered e
+  pub holds : Holds p n st
+
+-- the slices keep their lengths
+pub record SameLengths (p p′ : Pool) : Type 0 where
+  pub parents : length (p′ .parent) ≡ length (p .parent)
+  pub labels : length (p′ .label) ≡ length (p .label)
+  pub firsts : length (p′ .first) ≡ length (p .first)
+  pub marksS : length (p′ .s) ≡ length (p .s)
+  pub marksD : length (p′ .d) ≡ length (p .d)
+
+pub reading-start : (w P L F S D : List ℕ) → (e : Expr) × (readWord w ≡ answered e)
+    → (512 ≤ length P) × (512 ≤ length L) × (257 ≤ length F) × (256 ≤ length S) × (256 ≤ length D) → Reading w (pool P L (set F 0 0) S D) 0 0
+unfolding stack
+reading-start w P L F S D (e, q) (lp, ll, lf, ls, ld) = record {
+  e = e;
+  word = q;
+  st = nothingPending;
+  rest = accepted-start w q;
+  holds = record {
+    stands = record {
+      sound = record {
+        parents = lp;
+        labels = ll;
+        firsts = rw length-set lf;
+        marksS = ls;
+        marksD = ld;
+        few = omega arith;
+        start = start;
+        up = λ k lt. absurd (omega arith);
+        end = λ k le. let z : k ≡ 0 = omega arith in rw (z, start) (omega arith);
+      };
+      holds = refl;
+    };
+    count = refl;
+    few = omega arith;
+  };
+}
+  where
+    start : getD (set F 0 0) 0 0 ≡ 0
+    start = getD-set-same F 0 0 0 (omega arith)
+
+module _ (w : List ℕ) (p : Pool) (n at : ℕ) (d : Reading w p n at) where
+  -- no number of an accepted word is broken
+  pub reading-broken : {A : Type 0} {r : Read} → at < length w → gotOf at r ≡ readNumber w at → r ≡ Broken → A
+  reading-broken lt g e = absurd (accepted-number w at (d .st) (d .rest) lt (sym g ∙ ap (gotOf at) e))
+
+  module _ {v next : ℕ} (lt : at < length w) (number : NumberAt w at v next) where
+    -- and no sign is refused
+    pub reading-passes : Passes p n v
+    reading-passes = let (st′, t, rest) = accepted-sign w at (d .st) (d .rest) lt number in (d .st, st′, at, d .holds, t)
+
+    pub reading-next : (p′ : Pool) (r : ℕ) → ((st st′ : Pending) (at : ℕ) → Holds p n st → takes v st at ≡ answered st′ → Holds p′ r st′) → Reading w p′ r next
+    reading-next p′ r f =
+        let (st′, t, rest) = accepted-sign w at (d .st) (d .rest) lt number in
+        record { e = d .e; word = d .word; st = st′; rest = rest; holds = f (d .st) st′ at (d .holds) t }
+
+-- ------------------------------------------------------------------ what is built
+-- the rows of a tree query within the limits of an accepted word
+module _ (r : Built) (P L : List ℕ) (lp : 512 ≤ length P) (ll : 512 ≤ length L) where
+  no-rows : r .rows ≡ 0 → PlainRows r P L
+  no-rows z = record {
+    few = omega arith;
+    parents = omega arith;
+    codes = omega arith;
+    labels = λ i lt. absurd (omega arith);
+    sIn = λ ne. absurd (ne z);
+    dIn = λ ne. absurd (ne z);
+    level = λ _. 0;
+    linked = λ i lt. absurd (omega arith);
+    top = 0;
+    topLevel = refl;
+    single = λ i lt. absurd (omega arith);
+  }
+
+  some-rows : TreeQuery (query (r .rows) P L (r .s) (r .d)) → r .rows ≤ 256 → RowsIn InRange (some (query (r .rows) P L (r .s) (r .d))) → PlainRows r P L
+  some-rows t few range = record {
+    few = few;
+    parents = omega arith;
+    codes = omega arith;
+    labels = λ i lt. code i lt (getD L i 0) refl;
+    sIn = λ _. live-below (r .rows) P L (r .s) (t .sLive);
+    dIn = λ _. live-below (r .rows) P L (r .d) (t .dLive);
+    level = t .tree .lev;
+    linked = λ i lt ne.
+        let (live, up) = t .tree .linked i (getD P i 0) (labOf (getD L i 0)) (row-table (r .rows) P L i lt (some (getD P i 0)) (parent-some (getD P i 0) ne)) in
+        (live-below (r .rows) P L (getD P i 0) live, up);
+    top = t .tree .top;
+    topLevel = t .tree .topLev;
+    single = λ i lt e. t .tree .single i (labOf (getD L i 0), row-table (r .rows) P L i lt none (parent-none (getD P i 0) e));
+  }
+    where
+      code : (i : ℕ) → i < r .rows → (c : ℕ) → getD L i 0 ≡ c → c ≤ suc largestLabel
+      code i lt zero e = omega arith
+      code i lt (suc l) e =
+          let z = range i (parentOf (getD P i 0)) l (at-table (r .rows) P L i lt ∙ ap (λ c. some (node (parentOf (getD P i 0)) (labOf c))) e) in
+          omega arith
+
+  -- the plain tree query of an accepted word
+  plain-rows : (w : List ℕ) (e : Expr) → readWord w ≡ answered e → plain e ≡ builtOf r P L → PlainRows r P L
+  plain-rows w e q b = go (ℕ-discrete (r .rows) 0)
+    where
+      Q : Query
+      Q = query (r .rows) P L (r .s) (r .d)
+
+      go : Dec (r .rows ≡ 0) → PlainRows r P L
+      go (yes z) = no-rows z
+      go (no ne) =
+          let here : plain e ≡ some Q = b ∙ rows-some (r .rows) Q ne in
+          let (few, labels, short) = accepted w e q in
+          let most : length (table (r .rows) P L) ≤ suc _ = subst (AtMost (suc _)) here (few-nodes e) in
+          some-rows (subst TreeO here (means-tree _ (plain e) (plain-means e))) (omega (arith, most, length-table (r .rows) P L))
+          (subst (RowsIn InRange) here (plain-labels InRange e labels))
+
+same-head : {A : Type 0} (x y : A) (xs ys : List A) → x ∷ xs ≡ y ∷ ys → x ≡ y
+same-head x y xs ys e = cc
+
+pub reading-end : (w : List ℕ) (p : Pool) (n at : ℕ) → Reading w p n at → length w ≤ at → (rows s d : ℕ) → rows ≡ getD (p .first) 1 0 → s ≡ getD (p .s) 0 0
+    → d ≡ getD (p .d) 0 0 → (andThen (readWord w) (λ e. answered (plain e)) ≡ answered (builtOf (record { rows = rows; s = s; d = d }) (p .parent) (p .label)))
+    × PlainRows (record { rows = rows; s = s; d = d }) (p .parent) (p .label)
+unfolding stack part
+reading-end w p n at h le rows s d er es ed =
+    (rw (h .word) (ap answered built), plain-rows r (p .parent) (p .label) (sound .parents) (sound .labels) w (h .e) (h .word) built)
+  where
+    r : Built
+    r = record { rows = rows; s = s; d = d }
+
+    sound : Sound p n
+    sound = h .holds .stands .sound
+
+    only : h .st .operands ≡ h .e ∷ []
+    only = accepted-end w at (h .st) (h .rest) le
+
+    one : n ≡ 1
+    one = let z = ap length only in let l = holds-length p n (h .st) (h .holds) in omega arith
+
+    latest : stack p 1 ≡ plain (h .e) ∷ []
+    latest = ap (stack p) (sym one) ∙ h .holds .stands .holds ∙ ap (map plain) only
+
+    built : plain (h .e) ≡ builtOf r (p .parent) (p .label)
+    built =
+        let z = same-head (operand p 0) (plain (h .e)) [] [] latest in
+        let f : getD (p .first) 1 0 - 0 ≡ rows = omega arith in
+        sym z ∙ rw (sound .start, f, es, ed) refl

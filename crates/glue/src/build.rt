@@ -1,0 +1,78 @@
+// The plain tree query of an accepted word: sign by sign, with the same number reader as the check of the word.
+use crate::gluing::Built;
+use crate::pool::both_at_d;
+use crate::pool::both_at_s;
+use crate::pool::combine;
+use crate::pool::entry;
+use crate::pool::exchange;
+use crate::pool::push_edge;
+use crate::pool::push_empty;
+use crate::pool::push_node;
+use word::number::Read;
+use word::number::read_number;
+use word::sign::CHILD;
+use word::sign::COMPOSITION;
+use word::sign::EMPTY;
+use word::sign::FIRST_LABEL;
+use word::sign::FIRST_PROJECTION;
+use word::sign::INTERSECTION;
+use word::sign::INVERSE;
+use word::sign::PARENT;
+use word::sign::SECOND_PROJECTION;
+use word::sign::SELF;
+ghost use mathlib.Core.Path.{_≡_};
+ghost use Prim.Native.Nat.{ℕ, _≤_};
+ghost use lib.ListN.{length};
+ghost use Rattle.meaning.specs.Expression.{Expr};
+ghost use Rattle.meaning.specs.Gluing.{plain};
+ghost use Rattle.meaning.specs.Word.{Pending, takes, answered, andThen, readWord};
+ghost use Rattle.glue.specs.Rows.{builtOf};
+ghost use Rattle.glue.specs.Pool.{pool, Holds, Passes, PlainRows};
+
+// "9+L: label L", and the code of label L is L+1.
+const CODE_TO_SIGN: u32 = FIRST_LABEL - 1;
+
+// One sign that the check of the word lets pass; gives the number of operands that are pending then.
+fn apply_sign(parent: &mut [u16], label: &mut [u32], first: &mut [u16], s: &mut [u16], d: &mut [u16], pending: usize, sign: u32) -> usize
+    requires { ⌜ Passes (pool (now parent) (now label) (now first) (now s) (now d)) pending sign ⌝ }
+    ensures { λ r. ⌜ ((st st′ : Pending) (at : ℕ) → Holds (pool (now (parent .entry)) (now (label .entry)) (now (first .entry)) (now (s .entry)) (now (d .entry))) pending st → takes sign st at ≡ answered st′ → Holds (pool (now (parent .exit)) (now (label .exit)) (now (first .exit)) (now (s .exit)) (now (d .exit))) r st′) ⌝ }
+{
+    match sign {
+        EMPTY => push_empty(first, pending),
+        SELF => push_node(parent, label, first, s, d, pending, 0),
+        CHILD => push_edge(parent, label, first, s, d, pending, 0, 1),
+        PARENT => push_edge(parent, label, first, s, d, pending, 1, 0),
+        COMPOSITION => combine(parent, label, first, s, d, pending, false),
+        FIRST_PROJECTION => both_at_s(s, d, pending),
+        SECOND_PROJECTION => both_at_d(s, d, pending),
+        INTERSECTION => combine(parent, label, first, s, d, pending, true),
+        INVERSE => exchange(s, d, pending),
+        _ => push_node(parent, label, first, s, d, pending, sign - CODE_TO_SIGN),
+    }
+}
+
+// The word is accepted, and the caller lends 512 rows, 257 starts of operands and 256 marks of each kind; what they hold before does not matter.
+// Afterwards the first r.rows rows are the plain tree query, with its marks in r; no rows: empty.
+pub fn build(word: &[u8], parent: &mut [u16], label: &mut [u32], first: &mut [u16], s: &mut [u16], d: &mut [u16]) -> Built
+    requires { ⌜ ((e : Expr) × (readWord (now word) ≡ answered e)) ⌝ }
+    requires { ⌜ (512 ≤ length (now parent)) × (512 ≤ length (now label)) × (257 ≤ length (now first)) × (256 ≤ length (now s)) × (256 ≤ length (now d)) ⌝ }
+    ensures { λ r. ⌜ andThen (readWord (now (word .entry))) (λ e. answered (plain e)) ≡ answered (builtOf r (now (parent .exit)) (now (label .exit))) ⌝ }
+    ensures { λ r. ⌜ PlainRows r (now (parent .exit)) (now (label .exit)) ⌝ }
+{
+    first[0] = 0;
+    let mut pending: usize = 0;
+    let mut at: usize = 0;
+    while at < word.len() {
+        let Read::Number { value, next } = read_number(word, at) else {
+            // no number of an accepted word is broken
+            return Built { rows: 0, s: 0, d: 0 };
+        };
+        pending = apply_sign(parent, label, first, s, d, pending, value);
+        at = next;
+    }
+    Built {
+        rows: entry(first, 1),
+        s: entry(s, 0),
+        d: entry(d, 0),
+    }
+}
