@@ -52,14 +52,14 @@ module _ (q : Question) where
       pub selects-no-n : q .m < length (q .parents) → length (q .parents) ≤ q .n → Selected q (refused 9 0) (q .workspace)
       unfolding node
       selects-no-n lm l =
-        refused-as 9 0 (good ∙ ap (λ a. node a (ltb (q .n) (length (q .parents)))) (lt-ltb (q .m) (length (q .parents)) lm)
+          refused-as 9 0 (good ∙ ap (λ a. node a (ltb (q .n) (length (q .parents)))) (lt-ltb (q .m) (length (q .parents)) lm)
           ∙ ap (node true) (le-ltb (q .n) (length (q .parents)) l))
 
       module _ (lm : q .m < length (q .parents)) (ln : q .n < length (q .parents)) where
         both : asked q ≡ spaced q e
         unfolding node
         both = good ∙ ap (λ a. node a (ltb (q .n) (length (q .parents)))) (lt-ltb (q .m) (length (q .parents)) lm)
-          ∙ ap (node true) (lt-ltb (q .n) (length (q .parents)) ln)
+            ∙ ap (node true) (lt-ltb (q .n) (length (q .parents)) ln)
 
         -- refusal 10
         pub selects-short : length (q .workspace) < tableBytes → Selected q (refused 10 tableBytes) (q .workspace)
@@ -67,13 +67,17 @@ module _ (q : Question) where
 
         -- yes or no
         pub selects-told : tableBytes ≤ length (q .workspace) → (F : Forest Tag) → F ≡ minimalTree (plain e) → (told : Bool) (after : List ℕ)
-          → (told ≡ true) ↔ Takes F (docOf (q .parents) (q .labels)) (q .m) (q .n) → MatchTable F (docOf (q .parents) (q .labels)) (q .workspace) after
-          → Selected q (answered told) after
+            → (told ≡ true) ↔ Takes F (docOf (q .parents) (q .labels)) (q .m) (q .n) → MatchTable F (docOf (q .parents) (q .labels)) (q .workspace) after
+            → Selected q (answered told) after
         selects-told l F f told after p table =
-          selects-as (answered e) (both ∙ ap (λ b. cond b (answered e) (refused 10 tableBytes)) (le-leb tableBytes (length (q .workspace)) l)) (answered told) after
-            (told, refl, record {
-              pair = let s = same-minimal e (docOf (q .parents) (q .labels)) (q .m) (q .n) in
-                (λ y. s .1 (subst (λ z. Takes z (docOf (q .parents) (q .labels)) (q .m) (q .n)) f (p .0 y)),
-                  λ x. p .1 (subst (λ z. Takes z (docOf (q .parents) (q .labels)) (q .m) (q .n)) (sym f) (s .0 x)));
-              table = subst (λ z. MatchTable z (docOf (q .parents) (q .labels)) (q .workspace) after) f table
-            })
+            selects-as (answered e) (both ∙ ap (λ b. cond b (answered e) (refused 10 tableBytes)) (le-leb tableBytes (length (q .workspace)) l)) (answered told) after (
+              told,
+              refl,
+              record {
+                pair = let s = same-minimal e (docOf (q .parents) (q .labels)) (q .m) (q .n) in (
+                  λ y. s .1 (subst (λ z. Takes z (docOf (q .parents) (q .labels)) (q .m) (q .n)) f (p .0 y)),
+                  λ x. p .1 (subst (λ z. Takes z (docOf (q .parents) (q .labels)) (q .m) (q .n)) (sym f) (s .0 x)),
+                );
+                table = subst (λ z. MatchTable z (docOf (q .parents) (q .labels)) (q .workspace) after) f table;
+              },
+            )

@@ -39,16 +39,16 @@ module _ (form : Option Query → List ℕ) (word room : List ℕ) where
     -- refusal 7
     pub writes-short : (k : ℕ) → k ≡ length (form (plain e)) → length room < k → Writes form word room (refused 7 k) room
     writes-short k ek l =
-      subst (λ z. Writes form word room (refused 7 z) room) (sym ek)
+        subst (λ z. Writes form word room (refused 7 z) room) (sym ek)
         (writes-as (refused 7 (length (form (plain e)))) (written-is (answered e) r ∙ ap (λ b. cond b (refused 7 (length (form (plain e)))) (answered (form (plain e)))) (lt-ltb (length room) (length (form (plain e))) (omega arith))))
 
     -- the answer
     pub writes-done : (k : ℕ) (after : List ℕ) → k ≡ length (form (plain e)) → k ≤ length room → after ≡ put room 0 (form (plain e)) → Writes form word room (answered k) after
     writes-done k after ek l ea =
-      let fits : length (form (plain e)) ≤ length room = omega arith in
-      subst (λ z. Writes form word room (answered z) after) (sym ek)
+        let fits : length (form (plain e)) ≤ length room = omega arith in
+        subst (λ z. Writes form word room (answered z) after) (sym ek)
         (subst (Writes form word room (answered (length (form (plain e))))) (sym (ea ∙ put-front room (form (plain e)) fits))
-          (writes-as (answered (form (plain e))) (written-is (answered e) r ∙ ap (λ b. cond b (refused 7 (length (form (plain e)))) (answered (form (plain e)))) (le-ltb (length room) (length (form (plain e))) fits))))
+        (writes-as (answered (form (plain e))) (written-is (answered e) r ∙ ap (λ b. cond b (refused 7 (length (form (plain e)))) (answered (form (plain e)))) (le-ltb (length room) (length (form (plain e))) fits))))
 
 -- what a writer says it has written is in the room
 pub done-fits : (form : Option Query → List ℕ) (word room : List ℕ) (k : ℕ) (after : List ℕ) → Writes form word room (answered k) after → k ≤ length room

@@ -10,4 +10,3 @@ pub enum Told {
     No,
     Refused { number: u32, place: usize },
 }
-

@@ -51,7 +51,7 @@ ends-one mark s d ls e z i l = go (ℕ-discrete i d)
     go : Dec (i ≡ d) → getD (set (set mark s 1) d 3) i 0 ≡ markCode (is (ℕ-discrete i s)) (is (ℕ-discrete i d))
     go (yes p) = rw (is-yes i d p, is-yes i s (p ∙ sym e)) (ap (λ z. getD (set (set mark s 1) d 3) z 0) p ∙ getD-set-same (set mark s 1) d 3 0 (subst (λ z. d < z) (sym (length-set mark s 1)) (omega arith)))
     go (no n) = rw (is-no i d n, is-no i s (λ q. n (q ∙ e)))
-      (getD-set-other (set mark s 1) d i 3 0 n ∙ getD-set-other mark s i 1 0 (λ q. n (q ∙ e)) ∙ z i li)
+        (getD-set-other (set mark s 1) d i 3 0 n ∙ getD-set-other mark s i 1 0 (λ q. n (q ∙ e)) ∙ z i li)
 
 pub ends-two : (mark : List ℕ) (s d : ℕ) → s < length mark → d < length mark → (s ≡ d → ⊥) → ((i : ℕ) → i < length mark → getD mark i 0 ≡ 0) → Ends (set (set mark s 1) d 2) s d
 ends-two mark s d ls ld ne z i l = go (ℕ-discrete i d) (ℕ-discrete i s)
@@ -61,11 +61,11 @@ ends-two mark s d ls ld ne z i l = go (ℕ-discrete i d) (ℕ-discrete i s)
 
     go : Dec (i ≡ d) → Dec (i ≡ s) → getD (set (set mark s 1) d 2) i 0 ≡ markCode (is (ℕ-discrete i s)) (is (ℕ-discrete i d))
     go (yes p) q = rw (is-yes i d p, is-no i s (λ r. ne (sym r ∙ p)))
-      (ap (λ z. getD (set (set mark s 1) d 2) z 0) p ∙ getD-set-same (set mark s 1) d 2 0 (subst (λ z. d < z) (sym (length-set mark s 1)) ld))
+        (ap (λ z. getD (set (set mark s 1) d 2) z 0) p ∙ getD-set-same (set mark s 1) d 2 0 (subst (λ z. d < z) (sym (length-set mark s 1)) ld))
     go (no n) (yes q) = rw (is-no i d n, is-yes i s q)
-      (getD-set-other (set mark s 1) d i 2 0 n ∙ ap (λ z. getD (set mark s 1) z 0) q ∙ getD-set-same mark s 1 0 ls)
+        (getD-set-other (set mark s 1) d i 2 0 n ∙ ap (λ z. getD (set mark s 1) z 0) q ∙ getD-set-same mark s 1 0 ls)
     go (no n) (no q) = rw (is-no i d n, is-no i s q)
-      (getD-set-other (set mark s 1) d i 2 0 n ∙ getD-set-other mark s i 1 0 q ∙ z i li)
+        (getD-set-other (set mark s 1) d i 2 0 n ∙ getD-set-other mark s i 1 0 q ∙ z i li)
 
 -- ------------------------------------------------------------------ the table that gluing leaves
 table-rows : (P L : List ℕ) (n j : ℕ) (f : ℕ → Row) → ((i : ℕ) → f i ≡ rowAt P L (j + i)) → listed n f ≡ tableRows P L n j
@@ -118,7 +118,7 @@ module _ (word P L : List ℕ) (n s d : ℕ) (acc : Accepted word)
     (built : andThen (readWord word) (λ e. answered (plain e)) ≡ answered (ifRows n (query n P L s d))) where
   plain-built : (e : Expr) → readWord word ≡ answered e → plain e ≡ ifRows n (query n P L s d)
   plain-built e r =
-    answered-same (plain e) (ifRows n (query n P L s d)) (subst (λ o. andThen o (λ f. answered (plain f)) ≡ answered (ifRows n (query n P L s d))) r built)
+      answered-same (plain e) (ifRows n (query n P L s d)) (subst (λ o. andThen o (λ f. answered (plain f)) ≡ answered (ifRows n (query n P L s d))) r built)
 
   -- no rows: the word is empty, and no rows are its tree
   pub no-rows : n ≡ 0 → (code mark kids span up : List ℕ) → PlainRows word code mark kids span up 0
@@ -136,9 +136,9 @@ module _ (word P L : List ℕ) (n s d : ℕ) (acc : Accepted word)
       laid = refl;
       counted = tt;
       hung = tt;
-      single = omega arith
+      single = omega arith;
     };
-    tree = λ e r. sym (ap (λ o. ordered (plainTree o)) (plain-built e r ∙ ap (λ k. ifRows k (query n P L s d)) z))
+    tree = λ e r. sym (ap (λ o. ordered (plainTree o)) (plain-built e r ∙ ap (λ k. ifRows k (query n P L s d)) z));
   }
 
   module _ (some-rows : 0 < n) where
@@ -158,9 +158,9 @@ module _ (word P L : List ℕ) (n s d : ℕ) (acc : Accepted word)
 
     pub few : n ≤ 256
     few =
-      let a : length (table n P L) ≤ suc (steps (acc .0)) = subst (AtMost (suc (steps (acc .0)))) (plain-is (acc .0) (acc .1)) (few-nodes (acc .0)) in
-      let b = length-rows in
-      let c = (accepted word (acc .0) (acc .1)) .0 in omega arith
+        let a : length (table n P L) ≤ suc (steps (acc .0)) = subst (AtMost (suc (steps (acc .0)))) (plain-is (acc .0) (acc .1)) (few-nodes (acc .0)) in
+        let b = length-rows in
+        let c = (accepted word (acc .0) (acc .1)) .0 in omega arith
 
     pub s-inside : s < 256
     s-inside = let z = live-lt (table n P L) s (means .sLive) in let l = length-rows in let f = few in omega arith
@@ -171,16 +171,21 @@ module _ (word P L : List ℕ) (n s d : ℕ) (acc : Accepted word)
     labels : (i : ℕ) → i < n → getD L i 0 ≤ suc largestLabel
     unfolding table
     labels i l =
-      code-small (getD L i 0) λ x e.
+        code-small (getD L i 0) λ x e.
         (subst (RowsIn InRange) (plain-is (acc .0) (acc .1)) (plain-labels InRange (acc .0) ((accepted word (acc .0) (acc .1)) .1)))
-          i (parentOf (getD P i 0)) x (look-listed n i (rowAt P L) l ∙ ap (λ z. some (node (parentOf (getD P i 0)) z)) e)
+        i (parentOf (getD P i 0)) x (look-listed n i (rowAt P L) l ∙ ap (λ z. some (node (parentOf (getD P i 0)) z)) e)
 
     module _ (ends : List ℕ) (marks : Ends ends s d) (lp : n ≤ length P) (ll : n ≤ length L) (le : n ≤ length ends) where
       pub may-order : TreeTable P L ends n
       may-order = table-of-tree P L ends n few lp ll le labels
-        (λ i l. subst (λ z. z ≤ 3) (sym (marks i (omega arith))) (mark-small (is (ℕ-discrete i s)) (is (ℕ-discrete i d))))
-        (subst Tree (table-is P L n) (means .tree))
+          (λ i l. subst (λ z. z ≤ 3) (sym (marks i (omega arith))) (mark-small (is (ℕ-discrete i s)) (is (ℕ-discrete i d))))
+          (subst Tree (table-is P L n) (means .tree))
 
       pub same-tree : (e : Expr) → readWord word ≡ answered e → tableTree P L ends n ≡ plainTree (plain e)
       same-tree e r =
-        table-tree (query n P L s d) P L ends n (let z = few in omega arith) (table-is P L n) (λ i l. marks i (omega arith)) ∙ ap plainTree (sym (plain-is e r))
+          table-tree (query n P L s d) P L ends n (let z = few in omega arith) (table-is P L n) (λ i l. marks i (omega arith)) ∙ ap plainTree (sym (plain-is e r))
+
+-- a number that is not 0
+pub positive : (n : ℕ) → (n ≡ 0 → ⊥) → 0 < n
+positive zero ne = absurd (ne refl)
+positive (suc n) ne = omega arith

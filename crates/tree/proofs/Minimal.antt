@@ -8,15 +8,13 @@ use Rattle.meaning.specs.Tree.{plainTree}
 use Rattle.meaning.specs.Folding.{minimal}
 use Rattle.meaning.specs.Image.{ordered}
 use Rattle.theory.proofs.Least.{ordered-first}
-use Rattle.rows.specs.Rows.{Rows, treeRows}
-use Rattle.order.specs.Table.{tableTree}
 use Rattle.fold.specs.Kept.{RowsFolded, RowsKept}
-use Rattle.tree.specs.Trees.{PlainRows, MinimalRows}
+use Rattle.tree.specs.Trees.{InOrder, PlainRows, MinimalRows}
 
 pub minimal-rows : (word code mark kids span up : List ℕ) (n : ℕ) (up′ code′ mark′ parent : List ℕ) (r : ℕ) (code″ mark″ kids″ span″ up″ : List ℕ)
-  → PlainRows word code mark kids span up n → RowsFolded code mark span up n up′ → RowsKept code mark span up′ n code′ mark′ parent r
-  → Rows code″ mark″ kids″ span″ up″ r × (treeRows code″ mark″ span″ r ≡ ordered (tableTree parent code′ mark′ r)) → MinimalRows word code″ mark″ kids″ span″ up″ r
-minimal-rows word code mark kids span up n up′ code′ mark′ parent r code″ mark″ kids″ span″ up″ p f k (rows, e) = record {
-  rows = rows;
-  tree = λ x a. e ∙ ap ordered (k .same) ∙ f .least ∙ ap (λ t. ordered (minimal t)) (p .tree x a) ∙ ordered-first (plainTree (plain x))
+    → PlainRows word code mark kids span up n → RowsFolded code mark span up n up′ → RowsKept code mark span up′ n code′ mark′ parent r
+    → InOrder parent code′ mark′ r code″ mark″ kids″ span″ up″ → MinimalRows word code″ mark″ kids″ span″ up″ r
+minimal-rows word code mark kids span up n up′ code′ mark′ parent r code″ mark″ kids″ span″ up″ p f k o = record {
+  rows = o .rows;
+  tree = λ x a. o .tree ∙ ap ordered (k .same) ∙ f .least ∙ ap (λ t. ordered (minimal t)) (p .tree x a) ∙ ordered-first (plainTree (plain x));
 }

@@ -11,6 +11,7 @@ use Rattle.meaning.specs.Tree.{Forest, Tag, plainTree}
 use Rattle.meaning.specs.Image.{markCode, ordered, minimalTree}
 use Rattle.meaning.specs.Word.{answered, readWord}
 use Rattle.rows.specs.Rows.{Rows, treeRows}
+use Rattle.order.specs.Table.{tableTree}
 
 -- the word is accepted
 abbrev pub Accepted : List ℕ → Type 0
@@ -27,6 +28,11 @@ pub record Room (code mark kids span up : List ℕ) : Type 0 where
   pub counts : 256 ≤ length kids
   pub spans : 256 ≤ length span
   pub ups : 256 ≤ length up
+
+-- the n rows are the tree of a table, in image order
+pub record InOrder (parent label ends : List ℕ) (n : ℕ) (code mark kids span up : List ℕ) : Type 0 where
+  pub rows : Rows code mark kids span up n
+  pub tree : treeRows code mark span n ≡ ordered (tableTree parent label ends n)
 
 -- the n rows are the tree that f makes of the word's expression
 pub record RowsOf (f : Expr → Forest Tag) (word code mark kids span up : List ℕ) (n : ℕ) : Type 0 where

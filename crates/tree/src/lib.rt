@@ -3,7 +3,8 @@
 ghost use mathlib.Core.Path.{_≡_};
 ghost use Prim.Native.Nat.{ℕ, _<_};
 ghost use lib.ListN.{length, getD};
-ghost use Rattle.tree.specs.Trees.{Accepted, Ends, Room, PlainRows, MinimalRows};
+ghost use Rattle.order.specs.Table.{TreeTable};
+ghost use Rattle.tree.specs.Trees.{Accepted, Ends, Room, InOrder, PlainRows, MinimalRows};
 
 // Marks s and d among nodes that bear no mark.
 fn mark_ends(mark: &mut [u8], s: usize, d: usize)
@@ -18,7 +19,20 @@ fn mark_ends(mark: &mut [u8], s: usize, d: usize)
     mark[d] = 2;
 }
 
-// The plain tree. The pool's slices that are free once the tree is built serve as room to put it in order.
+// Puts the tree of a table in image order; the room to do it in is local.
+fn rows_of(parent: &[u16], label: &[u32], ends: &[u8], n: usize, code: &mut [u32], mark: &mut [u8], kids: &mut [u16], span: &mut [u16], up: &mut [u16])
+    requires { ⌜ TreeTable (now parent) (now label) (now ends) n × Room (now code) (now mark) (now kids) (now span) (now up) ⌝ }
+    ensures { λ _. ⌜ InOrder (now (parent .entry)) (now (label .entry)) (now (ends .entry)) n (now (code .exit)) (now (mark .exit)) (now (kids .exit)) (now (span .exit)) (now (up .exit)) ⌝ }
+{
+    let mut first = [0u16; 257];
+    let mut next = [0u16; 256];
+    let mut count = [0u16; 257];
+    let mut key = [0u64; 256];
+    let mut row = [0u16; 256];
+    order::image_rows(parent, label, ends, n, &mut first, &mut next, &mut count, &mut key, &mut row, code, mark, kids, span, up);
+}
+
+// The plain tree.
 pub fn plain_rows(word: &[u8], code: &mut [u32], mark: &mut [u8], kids: &mut [u16], span: &mut [u16], up: &mut [u16]) -> usize
     requires { ⌜ Accepted (now word) × Room (now code) (now mark) (now kids) (now span) (now up) ⌝ }
     ensures { λ r. ⌜ PlainRows (now (word .entry)) (now (code .exit)) (now (mark .exit)) (now (kids .exit)) (now (span .exit)) (now (up .exit)) r ⌝ }
@@ -26,18 +40,16 @@ pub fn plain_rows(word: &[u8], code: &mut [u32], mark: &mut [u8], kids: &mut [u1
     let mut parent = [0u16; 512];
     let mut label = [0u32; 512];
     let mut first = [0u16; 257];
-    let mut s = [0u16; 256];
-    let mut d = [0u16; 256];
-    let built = glue::build(word, &mut parent, &mut label, &mut first, &mut s, &mut d);
+    let mut sources = [0u16; 256];
+    let mut dests = [0u16; 256];
+    let built = glue::build::build(word, &mut parent, &mut label, &mut first, &mut sources, &mut dests);
     let n = built.rows;
     if n == 0 {
         return 0;
     }
     let mut ends = [0u8; 256];
     mark_ends(&mut ends, built.s, built.d);
-    let mut count = [0u16; 257];
-    let mut key = [0u64; 256];
-    order::image_rows(&parent, &label, &ends, n, &mut first, &mut s, &mut count, &mut key, &mut d, code, mark, kids, span, up);
+    rows_of(&parent, &label, &ends, n, code, mark, kids, span, up);
     n
 }
 
@@ -56,9 +68,6 @@ pub fn minimal_rows(word: &[u8], code: &mut [u32], mark: &mut [u8], kids: &mut [
     let mut parent = [0u16; 256];
     let mut moved = [0u16; 256];
     let m = fold::keep_rows(&mut labels, &mut marks, &spans, &ups, n, &mut parent, &mut moved);
-    let mut first = [0u16; 257];
-    let mut number = [0u16; 257];
-    let mut key = [0u64; 256];
-    order::image_rows(&parent, &labels, &marks, m, &mut first, &mut moved, &mut number, &mut key, &mut counts, code, mark, kids, span, up);
+    rows_of(&parent, &labels, &marks, m, code, mark, kids, span, up);
     m
 }

@@ -32,6 +32,7 @@ same-length-2 c = search needs
 
 returns : tie.Need-returns
 returns c = λ P L F sound. inverse-stands (pool P L F _ _) _ sound (c .before .before .before .before .before .before .before .before .before .before .before .before .before .before .pre .0) _ _ (c .before .before .before .before .before .before .before .before .before .before .entry .ensures .0) (c .before .before .before .before .before .before .before .before .entry2 .ensures .0) _ _ (c .before .before .before .before .before .before .put .ensures) (c .before .before .put2 .ensures)
+
 pub exchange-spec : {M : Type 1} → statement M
 exchange-spec =
     tie.close

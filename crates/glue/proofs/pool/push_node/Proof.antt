@@ -50,6 +50,7 @@ same-length-5 c = search needs
 
 returns : tie.Need-returns
 returns c = node-stands _ _ _ (c .before .before .before .before .before .before .before .before .before .before .before .before .before .before .before .before .before .pre .1) (c .before .before .before .before .before .before .before .before .before .before .before .before .before .before .before .before .before .pre .0) (c .before .before .before .before .before .before .before .before .before .before .entry .ensures .0) _ _ _ (let e = c .before .before .before .before .before .before .before .before .before .before .entry .ensures .0 in omega arith) _ (c .before .before .before .before .before .before .close .ensures .0) (c .before .before .before .before .before .before .close .ensures .1) (c .before .before .before .before .before .before .close .ensures .2)
+
 pub push-node-spec : {M : Type 1} → statement M
 push-node-spec =
     tie.close
