@@ -1,3 +1,4 @@
 mod Writing
 mod Asking
 mod Numbers
+mod OfRows

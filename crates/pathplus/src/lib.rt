@@ -1,3 +1,23 @@
+// The public calls. Each takes any bytes, numbers and lengths, refuses in the order of the specification, and answers by the floors below;
+// nothing of the caller's is touched before the answer is known.
+use word::refusal::BAD_TABLE;
+use word::refusal::NO_SUCH_NODE;
+use word::refusal::ROOM_TOO_SHORT;
+use word::refusal::WORKSPACE_TOO_SHORT;
+use word::whole::Checked;
+use word::whole::check_word;
+ghost use mathlib.Core.Path.{_≡_};
+ghost use mathlib.Core.Bool.{true};
+ghost use Prim.Native.Nat.{_≤_, _<_};
+ghost use lib.ListN.{length};
+ghost use Rattle.meaning.specs.Matching.{goodTable, tableBytes};
+ghost use Rattle.meaning.specs.Promise.{PlainImage, MinimalImage, NormalForm, Selected};
+ghost use Rattle.tree.specs.Trees.{Accepted};
+ghost use Rattle.pathplus.specs.Answer.{writtenOf, toldOf, question};
+
+// The bytes of the match table: 256 rows of 128 bytes.
+const TABLE_BYTES: usize = 32768;
+
 // A writer's answer: the length written, or the refusal's number and place.
 pub enum Written {
     Done { length: usize },
@@ -9,4 +29,144 @@ pub enum Told {
     Yes,
     No,
     Refused { number: u32, place: usize },
+}
+
+// The plain image of an accepted word.
+fn write_plain_image(word: &[u8], room: &mut [u8]) -> Written
+    requires { ⌜ Accepted (now word) ⌝ }
+    ensures { λ r. ⌜ PlainImage (now (word .entry)) (now (room .entry)) (writtenOf r) (now (room .exit)) ⌝ }
+{
+    let mut code = [0u32; 256];
+    let mut mark = [0u8; 256];
+    let mut kids = [0u16; 256];
+    let mut span = [0u16; 256];
+    let mut up = [0u16; 256];
+    let n = tree::plain_rows(word, &mut code, &mut mark, &mut kids, &mut span, &mut up);
+    let length = image::image_length(&code, &mark, &kids, n);
+    if room.len() < length {
+        return Written::Refused { number: ROOM_TOO_SHORT, place: length };
+    }
+    image::write_image(&code, &mark, &kids, n, room);
+    Written::Done { length }
+}
+
+// The minimal image of an accepted word.
+fn write_minimal_image(word: &[u8], room: &mut [u8]) -> Written
+    requires { ⌜ Accepted (now word) ⌝ }
+    ensures { λ r. ⌜ MinimalImage (now (word .entry)) (now (room .entry)) (writtenOf r) (now (room .exit)) ⌝ }
+{
+    let mut code = [0u32; 256];
+    let mut mark = [0u8; 256];
+    let mut kids = [0u16; 256];
+    let mut span = [0u16; 256];
+    let mut up = [0u16; 256];
+    let n = tree::minimal_rows(word, &mut code, &mut mark, &mut kids, &mut span, &mut up);
+    let length = image::image_length(&code, &mark, &kids, n);
+    if room.len() < length {
+        return Written::Refused { number: ROOM_TOO_SHORT, place: length };
+    }
+    image::write_image(&code, &mark, &kids, n, room);
+    Written::Done { length }
+}
+
+// The normal form of an accepted word.
+fn write_normal_form(word: &[u8], room: &mut [u8]) -> Written
+    requires { ⌜ Accepted (now word) ⌝ }
+    ensures { λ r. ⌜ NormalForm (now (word .entry)) (now (room .entry)) (writtenOf r) (now (room .exit)) ⌝ }
+{
+    let mut code = [0u32; 256];
+    let mut mark = [0u8; 256];
+    let mut kids = [0u16; 256];
+    let mut span = [0u16; 256];
+    let mut up = [0u16; 256];
+    let n = tree::minimal_rows(word, &mut code, &mut mark, &mut kids, &mut span, &mut up);
+    let length = normal::form_length(&code, &mark, &kids, &span, &up, n);
+    if room.len() < length {
+        return Written::Refused { number: ROOM_TOO_SHORT, place: length };
+    }
+    normal::write_form(&code, &mark, &kids, &span, &up, n, room);
+    Written::Done { length }
+}
+
+// The plain tree image of a word: refusals 1 to 6, then 7, or the image in the first bytes of the room.
+pub fn plain_image(word: &[u8], room: &mut [u8]) -> Written
+    ensures { λ r. ⌜ PlainImage (now (word .entry)) (now (room .entry)) (writtenOf r) (now (room .exit)) ⌝ }
+{
+    match check_word(word) {
+        Checked::Refused { number, place } => Written::Refused { number, place },
+        Checked::Accepted => write_plain_image(word, room),
+    }
+}
+
+// The minimal tree image of a word.
+pub fn minimal_image(word: &[u8], room: &mut [u8]) -> Written
+    ensures { λ r. ⌜ MinimalImage (now (word .entry)) (now (room .entry)) (writtenOf r) (now (room .exit)) ⌝ }
+{
+    match check_word(word) {
+        Checked::Refused { number, place } => Written::Refused { number, place },
+        Checked::Accepted => write_minimal_image(word, room),
+    }
+}
+
+// The normal form of a word.
+pub fn normal_form(word: &[u8], room: &mut [u8]) -> Written
+    ensures { λ r. ⌜ NormalForm (now (word .entry)) (now (room .entry)) (writtenOf r) (now (room .exit)) ⌝ }
+{
+    match check_word(word) {
+        Checked::Refused { number, place } => Written::Refused { number, place },
+        Checked::Accepted => write_normal_form(word, room),
+    }
+}
+
+// Yes or no, and the match table in the workspace, once nothing is left to refuse.
+fn tell(word: &[u8], parents: &[u32], labels: &[u32], m: usize, n: usize, workspace: &mut [u8]) -> Told
+    requires { ⌜ Accepted (now word) × (goodTable (now parents) (now labels) ≡ true) × (m < length (now parents)) × (n < length (now parents)) × (tableBytes ≤ length (now workspace)) ⌝ }
+    ensures { λ r. ⌜ Selected (question (now (word .entry)) (now (parents .entry)) (now (labels .entry)) m n (now (workspace .entry))) (toldOf r) (now (workspace .exit)) ⌝ }
+{
+    let mut code = [0u32; 256];
+    let mut mark = [0u8; 256];
+    let mut kids = [0u16; 256];
+    let mut span = [0u16; 256];
+    let mut up = [0u16; 256];
+    let rows = tree::minimal_rows(word, &mut code, &mut mark, &mut kids, &mut span, &mut up);
+    matching::match_table(workspace, &code, &span, rows, parents, labels);
+    if rows == 0 {
+        return Told::No;
+    }
+    if matching::pair_selected(workspace, &mark, &up, parents, m, n) {
+        return Told::Yes;
+    }
+    Told::No
+}
+
+// The pair question of an accepted word: refusals 8, 9 and 10.
+fn ask(word: &[u8], parents: &[u32], labels: &[u32], m: u64, n: u64, workspace: &mut [u8]) -> Told
+    requires { ⌜ Accepted (now word) ⌝ }
+    ensures { λ r. ⌜ Selected (question (now (word .entry)) (now (parents .entry)) (now (labels .entry)) m n (now (workspace .entry))) (toldOf r) (now (workspace .exit)) ⌝ }
+{
+    if !matching::good_table(parents, labels) {
+        return Told::Refused { number: BAD_TABLE, place: 0 };
+    }
+    let nodes = parents.len() as u64;
+    if nodes <= m {
+        return Told::Refused { number: NO_SUCH_NODE, place: 0 };
+    }
+    if nodes <= n {
+        return Told::Refused { number: NO_SUCH_NODE, place: 0 };
+    }
+    if workspace.len() < TABLE_BYTES {
+        return Told::Refused { number: WORKSPACE_TOO_SHORT, place: TABLE_BYTES };
+    }
+    tell(word, parents, labels, m as usize, n as usize, workspace)
+}
+
+// Whether a word selects the pair (m,n) on the document of a table: refusals 1 to 6, then 8, 9, 10, or yes or no with the match table in the
+// workspace's first 32,768 bytes.
+pub fn selects(word: &[u8], parents: &[u32], labels: &[u32], m: u64, n: u64, workspace: &mut [u8]) -> Told
+    ensures { λ r. ⌜ Selected (question (now (word .entry)) (now (parents .entry)) (now (labels .entry)) m n (now (workspace .entry))) (toldOf r) (now (workspace .exit)) ⌝ }
+{
+    match check_word(word) {
+        Checked::Refused { number, place } => Told::Refused { number, place },
+        Checked::Accepted => ask(word, parents, labels, m, n, workspace),
+    }
 }
