@@ -2,3 +2,4 @@ mod Writing
 mod Asking
 mod Numbers
 mod OfRows
+mod Pairs

@@ -15,13 +15,9 @@ use Rattle.meaning.specs.Normal.{normalForm}
 use Rattle.meaning.specs.Word.{Outcome, refused, answered, andThen, readWord}
 use Rattle.meaning.specs.Matching.{goodTable, tableBytes}
 use Rattle.meaning.specs.Promise.{fitting, written, lengthOf, Writes, Question, spaced, paired, tabled, asked, Replies, Selected}
+use Rattle.pathplus.specs.Answer.{Short, yesOf}
 use Rattle.theory.proofs.Refused.{Small, small-word}
 use Rattle.theory.proofs.Again.{images-short, form-accepted}
-
--- a refusal with a small number and place, or a short answer
-abbrev pub Short : Outcome ℕ → Type 0
-Short (refused n p) = (n ≤ 10) × (p ≤ 32768)
-Short (answered k) = k ≤ 32768
 
 -- the answers of a form are short
 abbrev pub ShortForm : (Option Query → List ℕ) → Type 0
@@ -49,10 +45,6 @@ short-writes form f word room o after w = subst Short (sym (w .returned)) (go (r
     go (answered e) r s = fit (ltb (length room) (length (form (plain e)))) (form (plain e)) (f word e r)
 
 -- ------------------------------------------------------------------ the pair question
-abbrev pub ShortTold : Outcome Bool → Type 0
-ShortTold (refused n p) = (n ≤ 10) × (p ≤ 32768)
-ShortTold (answered b) = Unit {0}
-
 small-tabled : (q : Question) (e : Expr) → Small 10 32768 (tabled q e)
 small-tabled q e = table (goodTable (q .parents) (q .labels))
   where
@@ -68,14 +60,18 @@ small-tabled q e = table (goodTable (q .parents) (q .labels))
     table true = node (ltb (q .m) (length (q .parents)) && ltb (q .n) (length (q .parents)))
     table false = (omega arith, omega arith)
 
-pub short-selects : (q : Question) (o : Outcome Bool) (after : List ℕ) → Selected q o after → ShortTold o
+pub short-selects : (q : Question) (o : Outcome Bool) (after : List ℕ) → Selected q o after → Short (yesOf o)
 unfolding Selected asked
 short-selects q o after s = go (readWord (q .word)) (small-word (q .word)) s
   where
-    told : (x : Outcome Expr) → Small 10 32768 x → Replies q x o after → ShortTold o
-    told (refused n p) l (e, k) = subst ShortTold (sym e) l
-    told (answered f) l (b, e, t) = subst ShortTold (sym e) tt
+    one : (b : Bool) → Short (yesOf (answered b))
+    one true = omega arith
+    one false = omega arith
 
-    go : (x : Outcome Expr) → Small 6 4096 x → Replies q (andThen x (tabled q)) o after → ShortTold o
+    told : (x : Outcome Expr) → Small 10 32768 x → Replies q x o after → Short (yesOf o)
+    told (refused n p) l (e, k) = subst (λ z. Short (yesOf z)) (sym e) l
+    told (answered f) l (b, e, t) = subst (λ z. Short (yesOf z)) (sym e) (one b)
+
+    go : (x : Outcome Expr) → Small 6 4096 x → Replies q (andThen x (tabled q)) o after → Short (yesOf o)
     go (refused n p) (a, b) r = told (refused n p) (omega arith, omega arith) r
     go (answered e) l r = told (tabled q e) (small-tabled q e) r

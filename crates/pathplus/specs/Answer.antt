@@ -1,9 +1,12 @@
--- What each answer of the public calls stands for: 01's number and values for each case.
+-- What each answer of the public calls stands for: 01's number and values for each case, and the numbers that C is given.
+use mathlib.Core.Path.{_≡_}
 use mathlib.Core.Bool.{Bool, true, false}
 use mathlib.Core.List.{List}
-use Prim.Native.Nat.{ℕ}
+use mathlib.Core.Option.{Option}
+use Prim.Native.Nat.{ℕ, _+_, _*_, _≤_}
+use Rattle.meaning.specs.TreeQuery.{Query}
 use Rattle.meaning.specs.Word.{Outcome, refused, answered}
-use Rattle.meaning.specs.Promise.{Question}
+use Rattle.meaning.specs.Promise.{Writes, Question, Selected}
 use Rattle.pathplus.specs.declared.Written.{Written}
 use Rattle.pathplus.specs.declared.Written.the-variants as Written
 use Rattle.pathplus.specs.declared.Told.{Told}
@@ -23,3 +26,26 @@ toldOf (Told.Refused number place) = refused number place
 -- what the pair question is handed
 abbrev pub question : List ℕ → List ℕ → List ℕ → ℕ → ℕ → List ℕ → Question
 question word parents labels m n workspace = record { word = word; parents = parents; labels = labels; m = m; n = n; workspace = workspace }
+
+-- ------------------------------------------------------------------ what C is given
+-- "the upper 32 bits are the refusal number, 0 where the call is answered; the lower 32 bits are the place, or the length written, or 1 for yes and 0 for no"
+abbrev pub numberOf : Outcome ℕ → ℕ
+numberOf (refused number place) = number * 4294967296 + place
+numberOf (answered value) = value
+
+abbrev pub yesOf : Outcome Bool → Outcome ℕ
+yesOf (refused number place) = refused number place
+yesOf (answered true) = answered 1
+yesOf (answered false) = answered 0
+
+-- a refusal with a small number and place, or a small answer: they fit into the 32 bits each
+abbrev pub Short : Outcome ℕ → Type 0
+Short (refused number place) = (number ≤ 10) × (place ≤ 32768)
+Short (answered value) = value ≤ 32768
+
+-- the promises over the number that C is given
+abbrev pub WritesC : (Option Query → List ℕ) → List ℕ → List ℕ → ℕ → List ℕ → Type 0
+WritesC form word room r after = (o : Outcome ℕ) × (r ≡ numberOf o) × Short o × Writes form word room o after
+
+abbrev pub SelectedC : Question → ℕ → List ℕ → Type 0
+SelectedC q r after = (o : Outcome Bool) × (r ≡ numberOf (yesOf o)) × Short (yesOf o) × Selected q o after

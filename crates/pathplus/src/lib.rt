@@ -8,12 +8,14 @@ use word::whole::Checked;
 use word::whole::check_word;
 ghost use mathlib.Core.Path.{_≡_};
 ghost use mathlib.Core.Bool.{true};
-ghost use Prim.Native.Nat.{_≤_, _<_};
+ghost use Prim.Native.Nat.{_+_, _*_, _≤_, _<_};
 ghost use lib.ListN.{length};
 ghost use Rattle.meaning.specs.Matching.{goodTable, tableBytes};
 ghost use Rattle.meaning.specs.Promise.{PlainImage, MinimalImage, NormalForm, Selected};
 ghost use Rattle.tree.specs.Trees.{Accepted};
-ghost use Rattle.pathplus.specs.Answer.{writtenOf, toldOf, question};
+ghost use Rattle.meaning.specs.Image.{plainImage, minimalImage};
+ghost use Rattle.meaning.specs.Normal.{normalForm};
+ghost use Rattle.pathplus.specs.Answer.{writtenOf, toldOf, question, numberOf, yesOf, Short, WritesC, SelectedC};
 
 // The bytes of the match table: 256 rows of 128 bytes.
 const TABLE_BYTES: usize = 32768;
@@ -169,4 +171,64 @@ pub fn selects(word: &[u8], parents: &[u32], labels: &[u32], m: u64, n: u64, wor
         Checked::Refused { number, place } => Told::Refused { number, place },
         Checked::Accepted => ask(word, parents, labels, m, n, workspace),
     }
+}
+
+// A refusal's number in the upper 32 bits, and its place or the answer in the lower 32.
+fn packed(number: u32, value: usize) -> u64
+    requires { ⌜ (number ≤ 10) × (value ≤ 32768) ⌝ }
+    ensures { λ r. ⌜ r ≡ number * 4294967296 + value ⌝ }
+{
+    number as u64 * 4294967296 + value as u64
+}
+
+// A writer's answer as the number that C is given.
+fn written_number(answer: Written) -> u64
+    requires { ⌜ Short (writtenOf answer) ⌝ }
+    ensures { λ r. ⌜ r ≡ numberOf (writtenOf answer) ⌝ }
+{
+    match answer {
+        Written::Done { length } => packed(0, length),
+        Written::Refused { number, place } => packed(number, place),
+    }
+}
+
+// The pair question's answer as the number that C is given.
+fn told_number(answer: Told) -> u64
+    requires { ⌜ Short (yesOf (toldOf answer)) ⌝ }
+    ensures { λ r. ⌜ r ≡ numberOf (yesOf (toldOf answer)) ⌝ }
+{
+    match answer {
+        Told::Yes => 1,
+        Told::No => 0,
+        Told::Refused { number, place } => packed(number, place),
+    }
+}
+
+// The calls for C, declared in include/pathplus.h.
+#[no_mangle]
+pub extern "C" fn pathplus_plain_image(word: &[u8], room: &mut [u8]) -> u64
+    ensures { λ r. ⌜ WritesC plainImage (now (word .entry)) (now (room .entry)) r (now (room .exit)) ⌝ }
+{
+    written_number(plain_image(word, room))
+}
+
+#[no_mangle]
+pub extern "C" fn pathplus_minimal_image(word: &[u8], room: &mut [u8]) -> u64
+    ensures { λ r. ⌜ WritesC minimalImage (now (word .entry)) (now (room .entry)) r (now (room .exit)) ⌝ }
+{
+    written_number(minimal_image(word, room))
+}
+
+#[no_mangle]
+pub extern "C" fn pathplus_normal_form(word: &[u8], room: &mut [u8]) -> u64
+    ensures { λ r. ⌜ WritesC normalForm (now (word .entry)) (now (room .entry)) r (now (room .exit)) ⌝ }
+{
+    written_number(normal_form(word, room))
+}
+
+#[no_mangle]
+pub extern "C" fn pathplus_selects(word: &[u8], parents: &[u32], labels: &[u32], m: u64, n: u64, workspace: &mut [u8]) -> u64
+    ensures { λ r. ⌜ SelectedC (question (now (word .entry)) (now (parents .entry)) (now (labels .entry)) m n (now (workspace .entry))) r (now (workspace .exit)) ⌝ }
+{
+    told_number(selects(word, parents, labels, m, n, workspace))
 }

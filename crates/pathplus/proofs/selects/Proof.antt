@@ -1,3 +1,7 @@
+use mathlib.Core.Path.{sym, ap, _∙_}
+use Rattle.word.specs.Answer.{checkedOf}
+use Rattle.pathplus.proofs.Asking.{selects-refused}
+use Rattle.pathplus.proofs.OfRows.{word-accepted, word-refused}
 use borrow.Author.Needs.{needs}
 use Rattle.pathplus.proofs.selects.Statement.{statement}
 use Rattle.pathplus.proofs.selects.Tie as tie
@@ -20,12 +24,10 @@ enum-told c = search needs
 
 -- src/lib.rt:170:30
 ask-requires : tie.Need-ask-requires
-ask-requires c κs = ?
-
+ask-requires c κs = word-accepted _ (sym (ap checkedOf (c .before .enum-told .given .1)) ∙ c .before .before .before .check-word .ensures)
 -- src/lib.rt:165:1
 returns : tie.Need-returns
-returns c = ?
-
+returns c = selects-refused _ _ _ (word-refused _ _ _ (sym (ap checkedOf (c .before .number .given .1)) ∙ c .before .before .before .check-word .ensures))
 -- src/lib.rt:165:1
 same-length : tie.Need-same-length
 same-length c = search needs

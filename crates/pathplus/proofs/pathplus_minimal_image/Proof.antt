@@ -1,0 +1,27 @@
+use borrow.Author.Needs.{needs}
+use Rattle.pathplus.proofs.pathplus_minimal_image.Statement.{statement}
+use Rattle.pathplus.proofs.pathplus_minimal_image.Tie as tie
+use Rattle.pathplus.proofs.pathplus_minimal_image.Reads as reads
+use Rattle.pathplus.proofs.pathplus_minimal_image.Lts as lts
+use Rattle.pathplus.proofs.minimal_image.Reads as minimal-image-reads
+use Rattle.pathplus.proofs.written_number.Reads as written-number-reads
+
+-- src/lib.rt:219:20
+minimal-image-requires : tie.Need-minimal-image-requires
+minimal-image-requires c κs = search needs
+
+-- src/lib.rt:219:5
+written-number-requires : tie.Need-written-number-requires
+written-number-requires c κs = ?
+
+-- src/lib.rt:215:1
+same-length : tie.Need-same-length
+same-length c = search needs
+
+-- src/lib.rt:215:1
+returns : tie.Need-returns
+returns c = ?
+
+pub pathplus-minimal-image-spec : {M : Type 1} → statement M
+pathplus-minimal-image-spec =
+    tie.close (tie.spec minimal-image-requires written-number-requires same-length returns)

@@ -1,0 +1,27 @@
+use borrow.Author.Needs.{needs}
+use Rattle.pathplus.proofs.pathplus_selects.Statement.{statement}
+use Rattle.pathplus.proofs.pathplus_selects.Tie as tie
+use Rattle.pathplus.proofs.pathplus_selects.Reads as reads
+use Rattle.pathplus.proofs.pathplus_selects.Lts as lts
+use Rattle.pathplus.proofs.selects.Reads as selects-reads
+use Rattle.pathplus.proofs.told_number.Reads as told-number-reads
+
+-- src/lib.rt:233:17
+selects-requires : tie.Need-selects-requires
+selects-requires c κs = search needs
+
+-- src/lib.rt:233:5
+told-number-requires : tie.Need-told-number-requires
+told-number-requires c κs = ?
+
+-- src/lib.rt:229:1
+same-length : tie.Need-same-length
+same-length c = search needs
+
+-- src/lib.rt:229:1
+returns : tie.Need-returns
+returns c = ?
+
+pub pathplus-selects-spec : {M : Type 1} → statement M
+pathplus-selects-spec =
+    tie.close (tie.spec selects-requires told-number-requires same-length returns)

@@ -1,0 +1,41 @@
+use borrow.Author.Needs.{needs}
+use Rattle.pathplus.proofs.written_number.Statement.{statement}
+use Rattle.pathplus.proofs.written_number.Tie as tie
+use Rattle.pathplus.proofs.written_number.Reads as reads
+use Rattle.pathplus.proofs.written_number.Lts as lts
+use Rattle.pathplus.proofs.packed.Reads as packed-reads
+
+-- src/lib.rt:190:25
+enum-known-answer : tie.Need-enum-known-answer
+enum-known-answer c = search needs
+
+-- src/lib.rt:190:37
+packed-requires : tie.Need-packed-requires
+packed-requires c κs = ?
+
+-- src/lib.rt:191:28
+enum-known-answer-2 : tie.Need-enum-known-answer-2
+enum-known-answer-2 c = search needs
+
+-- src/lib.rt:191:47
+packed-requires-2 : tie.Need-packed-requires-2
+packed-requires-2 c κs = ?
+
+-- src/lib.rt:185:1
+returns : tie.Need-returns
+returns c = ?
+
+-- src/lib.rt:185:1
+returns-2 : tie.Need-returns-2
+returns-2 c = ?
+
+pub written-number-spec : {M : Type 1} → statement M
+written-number-spec =
+    tie.close
+    (tie.spec
+    enum-known-answer
+    packed-requires
+    enum-known-answer-2
+    packed-requires-2
+    returns
+    returns-2)
