@@ -41,7 +41,7 @@ word-refused word n p v = go (readWord word) refl v
 
 -- the rows of a tree in image order list its image
 pub image-listed : (g : Expr → Forest Tag) (word code mark kids span up : List ℕ) (n : ℕ) → RowsOf (λ e. ordered (g e)) word code mark kids span up n
-  → (e : Expr) → readWord word ≡ answered e → listing code mark kids n ≡ image (g e)
+    → (e : Expr) → readWord word ≡ answered e → listing code mark kids n ≡ image (g e)
 image-listed g word code mark kids span up n R e r = image-rows code mark kids span up n (R .rows) (g e) (R .tree e r)
 
 module _ (word code mark kids span up : List ℕ) (n : ℕ) (R : MinimalRows word code mark kids span up n) (acc : Accepted word) where
@@ -55,8 +55,8 @@ module _ (word code mark kids span up : List ℕ) (n : ℕ) (R : MinimalRows wor
     where
       go : (o : Option Query) → plain (acc .0) ≡ o → Means (pairs (acc .0)) o → QueryTree (minimalTree (plain (acc .0)))
       go none e w =
-        let z = size-rows span n (R .rows .laid) code mark in
-        let y : size (treeRows code mark span n) ≡ 0 = ap size (R .tree (acc .0) (acc .1) ∙ ap minimalTree e) in absurd (omega arith)
+          let z = size-rows span n (R .rows .laid) code mark in
+          let y : size (treeRows code mark span n) ≡ 0 = ap size (R .tree (acc .0) (acc .1) ∙ ap minimalTree e) in absurd (omega arith)
       go (some Q) e (v, w) = subst (λ o. QueryTree (minimalTree o)) (sym e) (least-tree Q v)
 
   pub query-rows : QueryRows code mark kids span up n

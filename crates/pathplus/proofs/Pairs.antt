@@ -19,9 +19,10 @@ use Rattle.pathplus.proofs.OfRows.{query-tree}
 -- no rows are empty, which selects nothing
 pub none-taken : (code mark span : List ℕ) (n : ℕ) → n ≡ 0 → (D : Doc) (m k : ℕ) → (false ≡ true) ↔ Takes (treeRows code mark span n) D m k
 unfolding treeRows shape brothers mapT
-none-taken code mark span n z D m k =
-  (λ e. let y : _≡_ {A = ℕ} 0 1 = cc in absurd (omega arith),
-    λ t. absurd (subst (λ i. Takes (treeRows code mark span i) D m k) z t))
+none-taken code mark span n z D m k = (
+  λ e. let y : _≡_ {A = ℕ} 0 1 = cc in absurd (omega arith),
+  λ t. absurd (subst (λ i. Takes (treeRows code mark span i) D m k) z t),
+)
 
 module _ (word code mark kids span up : List ℕ) (n : ℕ) (R : MinimalRows word code mark kids span up n) (acc : Accepted word) (pos : 0 < n)
     (P L before w : List ℕ) (good : goodTable P L ≡ true) (room : tableBytes ≤ length before) (M : MatchTable (treeRows code mark span n) (docOf P L) before w) where
@@ -37,12 +38,12 @@ module _ (word code mark kids span up : List ℕ) (n : ℕ) (R : MinimalRows wor
     d = single-row dst code mark span n (R .rows .laid) (query-tree word code mark kids span up n R acc pos .dest);
     table = good;
     room = omega (arith, M .same, room);
-    bits = M .bits
+    bits = M .bits;
   }
 
   pub pair-told : (m k : ℕ) (r b : Bool)
-    → ((q : Asked w mark up P) → (r ≡ true) ↔ Takes (treeRows (q .code) mark (q .span) (q .rows)) (docOf P (q .labels)) m k)
-    → r ≡ b → (b ≡ true) ↔ Takes (treeRows code mark span n) (docOf P L) m k
+      → ((q : Asked w mark up P) → (r ≡ true) ↔ Takes (treeRows (q .code) mark (q .span) (q .rows)) (docOf P (q .labels)) m k)
+      → r ≡ b → (b ≡ true) ↔ Takes (treeRows code mark span n) (docOf P L) m k
   unfolding may-ask
   pair-told m k r b E e = subst (λ x. (x ≡ true) ↔ Takes (treeRows code mark span n) (docOf P L) m k) e (E may-ask)
 

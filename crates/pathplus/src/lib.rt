@@ -46,7 +46,10 @@ fn write_plain_image(word: &[u8], room: &mut [u8]) -> Written
     let n = tree::plain_rows(word, &mut code, &mut mark, &mut kids, &mut span, &mut up);
     let length = image::image_length(&code, &mark, &kids, n);
     if room.len() < length {
-        return Written::Refused { number: ROOM_TOO_SHORT, place: length };
+        return Written::Refused {
+            number: ROOM_TOO_SHORT,
+            place: length,
+        };
     }
     image::write_image(&code, &mark, &kids, n, room);
     Written::Done { length }
@@ -65,7 +68,10 @@ fn write_minimal_image(word: &[u8], room: &mut [u8]) -> Written
     let n = tree::minimal_rows(word, &mut code, &mut mark, &mut kids, &mut span, &mut up);
     let length = image::image_length(&code, &mark, &kids, n);
     if room.len() < length {
-        return Written::Refused { number: ROOM_TOO_SHORT, place: length };
+        return Written::Refused {
+            number: ROOM_TOO_SHORT,
+            place: length,
+        };
     }
     image::write_image(&code, &mark, &kids, n, room);
     Written::Done { length }
@@ -84,7 +90,10 @@ fn write_normal_form(word: &[u8], room: &mut [u8]) -> Written
     let n = tree::minimal_rows(word, &mut code, &mut mark, &mut kids, &mut span, &mut up);
     let length = normal::form_length(&code, &mark, &kids, &span, &up, n);
     if room.len() < length {
-        return Written::Refused { number: ROOM_TOO_SHORT, place: length };
+        return Written::Refused {
+            number: ROOM_TOO_SHORT,
+            place: length,
+        };
     }
     normal::write_form(&code, &mark, &kids, &span, &up, n, room);
     Written::Done { length }
@@ -121,7 +130,14 @@ pub fn normal_form(word: &[u8], room: &mut [u8]) -> Written
 }
 
 // Yes or no, and the match table in the workspace, once nothing is left to refuse.
-fn tell(word: &[u8], parents: &[u32], labels: &[u32], m: usize, n: usize, workspace: &mut [u8]) -> Told
+fn tell(
+    word: &[u8],
+    parents: &[u32],
+    labels: &[u32],
+    m: usize,
+    n: usize,
+    workspace: &mut [u8],
+) -> Told
     requires { ⌜ Accepted (now word) × (goodTable (now parents) (now labels) ≡ true) × (m < length (now parents)) × (n < length (now parents)) × (tableBytes ≤ length (now workspace)) ⌝ }
     ensures { λ r. ⌜ Selected (question (now (word .entry)) (now (parents .entry)) (now (labels .entry)) m n (now (workspace .entry))) (toldOf r) (now (workspace .exit)) ⌝ }
 {
@@ -147,24 +163,43 @@ fn ask(word: &[u8], parents: &[u32], labels: &[u32], m: u64, n: u64, workspace: 
     ensures { λ r. ⌜ Selected (question (now (word .entry)) (now (parents .entry)) (now (labels .entry)) m n (now (workspace .entry))) (toldOf r) (now (workspace .exit)) ⌝ }
 {
     if !matching::good_table(parents, labels) {
-        return Told::Refused { number: BAD_TABLE, place: 0 };
+        return Told::Refused {
+            number: BAD_TABLE,
+            place: 0,
+        };
     }
     let nodes = parents.len() as u64;
     if nodes <= m {
-        return Told::Refused { number: NO_SUCH_NODE, place: 0 };
+        return Told::Refused {
+            number: NO_SUCH_NODE,
+            place: 0,
+        };
     }
     if nodes <= n {
-        return Told::Refused { number: NO_SUCH_NODE, place: 0 };
+        return Told::Refused {
+            number: NO_SUCH_NODE,
+            place: 0,
+        };
     }
     if workspace.len() < TABLE_BYTES {
-        return Told::Refused { number: WORKSPACE_TOO_SHORT, place: TABLE_BYTES };
+        return Told::Refused {
+            number: WORKSPACE_TOO_SHORT,
+            place: TABLE_BYTES,
+        };
     }
     tell(word, parents, labels, m as usize, n as usize, workspace)
 }
 
 // Whether a word selects the pair (m,n) on the document of a table: refusals 1 to 6, then 8, 9, 10, or yes or no with the match table in the
 // workspace's first 32,768 bytes.
-pub fn selects(word: &[u8], parents: &[u32], labels: &[u32], m: u64, n: u64, workspace: &mut [u8]) -> Told
+pub fn selects(
+    word: &[u8],
+    parents: &[u32],
+    labels: &[u32],
+    m: u64,
+    n: u64,
+    workspace: &mut [u8],
+) -> Told
     ensures { λ r. ⌜ Selected (question (now (word .entry)) (now (parents .entry)) (now (labels .entry)) m n (now (workspace .entry))) (toldOf r) (now (workspace .exit)) ⌝ }
 {
     match check_word(word) {
@@ -227,7 +262,14 @@ pub extern "C" fn pathplus_normal_form(word: &[u8], room: &mut [u8]) -> u64
 }
 
 #[no_mangle]
-pub extern "C" fn pathplus_selects(word: &[u8], parents: &[u32], labels: &[u32], m: u64, n: u64, workspace: &mut [u8]) -> u64
+pub extern "C" fn pathplus_selects(
+    word: &[u8],
+    parents: &[u32],
+    labels: &[u32],
+    m: u64,
+    n: u64,
+    workspace: &mut [u8],
+) -> u64
     ensures { λ r. ⌜ SelectedC (question (now (word .entry)) (now (parents .entry)) (now (labels .entry)) m n (now (workspace .entry))) r (now (workspace .exit)) ⌝ }
 {
     told_number(selects(word, parents, labels, m, n, workspace))

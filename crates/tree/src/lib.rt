@@ -20,7 +20,17 @@ fn mark_ends(mark: &mut [u8], s: usize, d: usize)
 }
 
 // Puts the tree of a table in image order; the room to do it in is local.
-fn rows_of(parent: &[u16], label: &[u32], ends: &[u8], n: usize, code: &mut [u32], mark: &mut [u8], kids: &mut [u16], span: &mut [u16], up: &mut [u16])
+fn rows_of(
+    parent: &[u16],
+    label: &[u32],
+    ends: &[u8],
+    n: usize,
+    code: &mut [u32],
+    mark: &mut [u8],
+    kids: &mut [u16],
+    span: &mut [u16],
+    up: &mut [u16],
+)
     requires { ⌜ TreeTable (now parent) (now label) (now ends) n × Room (now code) (now mark) (now kids) (now span) (now up) ⌝ }
     ensures { λ _. ⌜ InOrder (now (parent .entry)) (now (label .entry)) (now (ends .entry)) n (now (code .exit)) (now (mark .exit)) (now (kids .exit)) (now (span .exit)) (now (up .exit)) ⌝ }
 {
@@ -29,11 +39,33 @@ fn rows_of(parent: &[u16], label: &[u32], ends: &[u8], n: usize, code: &mut [u32
     let mut count = [0u16; 257];
     let mut key = [0u64; 256];
     let mut row = [0u16; 256];
-    order::image_rows(parent, label, ends, n, &mut first, &mut next, &mut count, &mut key, &mut row, code, mark, kids, span, up);
+    order::image_rows(
+        parent,
+        label,
+        ends,
+        n,
+        &mut first,
+        &mut next,
+        &mut count,
+        &mut key,
+        &mut row,
+        code,
+        mark,
+        kids,
+        span,
+        up,
+    );
 }
 
 // The plain tree.
-pub fn plain_rows(word: &[u8], code: &mut [u32], mark: &mut [u8], kids: &mut [u16], span: &mut [u16], up: &mut [u16]) -> usize
+pub fn plain_rows(
+    word: &[u8],
+    code: &mut [u32],
+    mark: &mut [u8],
+    kids: &mut [u16],
+    span: &mut [u16],
+    up: &mut [u16],
+) -> usize
     requires { ⌜ Accepted (now word) × Room (now code) (now mark) (now kids) (now span) (now up) ⌝ }
     ensures { λ r. ⌜ PlainRows (now (word .entry)) (now (code .exit)) (now (mark .exit)) (now (kids .exit)) (now (span .exit)) (now (up .exit)) r ⌝ }
 {
@@ -42,7 +74,14 @@ pub fn plain_rows(word: &[u8], code: &mut [u32], mark: &mut [u8], kids: &mut [u1
     let mut first = [0u16; 257];
     let mut sources = [0u16; 256];
     let mut dests = [0u16; 256];
-    let built = glue::build::build(word, &mut parent, &mut label, &mut first, &mut sources, &mut dests);
+    let built = glue::build::build(
+        word,
+        &mut parent,
+        &mut label,
+        &mut first,
+        &mut sources,
+        &mut dests,
+    );
     let n = built.rows;
     if n == 0 {
         return 0;
@@ -54,7 +93,14 @@ pub fn plain_rows(word: &[u8], code: &mut [u32], mark: &mut [u8], kids: &mut [u1
 }
 
 // The minimal tree: the plain one folded to the end, its rows moved together and put in order again.
-pub fn minimal_rows(word: &[u8], code: &mut [u32], mark: &mut [u8], kids: &mut [u16], span: &mut [u16], up: &mut [u16]) -> usize
+pub fn minimal_rows(
+    word: &[u8],
+    code: &mut [u32],
+    mark: &mut [u8],
+    kids: &mut [u16],
+    span: &mut [u16],
+    up: &mut [u16],
+) -> usize
     requires { ⌜ Accepted (now word) × Room (now code) (now mark) (now kids) (now span) (now up) ⌝ }
     ensures { λ r. ⌜ MinimalRows (now (word .entry)) (now (code .exit)) (now (mark .exit)) (now (kids .exit)) (now (span .exit)) (now (up .exit)) r ⌝ }
 {
@@ -63,11 +109,26 @@ pub fn minimal_rows(word: &[u8], code: &mut [u32], mark: &mut [u8], kids: &mut [
     let mut counts = [0u16; 256];
     let mut spans = [0u16; 256];
     let mut ups = [0u16; 256];
-    let n = plain_rows(word, &mut labels, &mut marks, &mut counts, &mut spans, &mut ups);
+    let n = plain_rows(
+        word,
+        &mut labels,
+        &mut marks,
+        &mut counts,
+        &mut spans,
+        &mut ups,
+    );
     fold::fold_rows(&labels, &marks, &spans, &mut ups, n);
     let mut parent = [0u16; 256];
     let mut moved = [0u16; 256];
-    let m = fold::keep_rows(&mut labels, &mut marks, &spans, &ups, n, &mut parent, &mut moved);
+    let m = fold::keep_rows(
+        &mut labels,
+        &mut marks,
+        &spans,
+        &ups,
+        n,
+        &mut parent,
+        &mut moved,
+    );
     rows_of(&parent, &labels, &marks, m, code, mark, kids, span, up);
     m
 }

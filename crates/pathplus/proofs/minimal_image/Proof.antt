@@ -26,9 +26,11 @@ enum-told c = search needs
 -- src/lib.rt:107:30
 write-minimal-image-requires : tie.Need-write-minimal-image-requires
 write-minimal-image-requires c κs = word-accepted _ (sym (ap checkedOf (c .before .enum-told .given .1)) ∙ c .before .before .before .check-word .ensures)
+
 -- src/lib.rt:102:1
 returns : tie.Need-returns
 returns c = writes-refused minimalImage _ _ _ _ (word-refused _ _ _ (sym (ap checkedOf (c .before .number .given .1)) ∙ c .before .before .before .check-word .ensures))
+
 -- src/lib.rt:102:1
 same-length : tie.Need-same-length
 same-length c = search needs

@@ -1,3 +1,5 @@
+use Rattle.meaning.specs.Image.{minimalImage}
+use Rattle.pathplus.proofs.Numbers.{short-writes, short-minimal}
 use borrow.Author.Needs.{needs}
 use Rattle.pathplus.proofs.pathplus_minimal_image.Statement.{statement}
 use Rattle.pathplus.proofs.pathplus_minimal_image.Tie as tie
@@ -12,7 +14,7 @@ minimal-image-requires c κs = search needs
 
 -- src/lib.rt:219:5
 written-number-requires : tie.Need-written-number-requires
-written-number-requires c κs = ?
+written-number-requires c κs = short-writes minimalImage short-minimal _ _ _ _ (c .before .before .minimal-image .ensures)
 
 -- src/lib.rt:215:1
 same-length : tie.Need-same-length
@@ -20,7 +22,7 @@ same-length c = search needs
 
 -- src/lib.rt:215:1
 returns : tie.Need-returns
-returns c = ?
+returns c = (_, c .written-number .ensures, short-writes minimalImage short-minimal _ _ _ _ (c .before .before .before .minimal-image .ensures), c .before .before .before .minimal-image .ensures)
 
 pub pathplus-minimal-image-spec : {M : Type 1} → statement M
 pathplus-minimal-image-spec =

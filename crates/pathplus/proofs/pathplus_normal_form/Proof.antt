@@ -1,3 +1,5 @@
+use Rattle.meaning.specs.Normal.{normalForm}
+use Rattle.pathplus.proofs.Numbers.{short-writes, short-normal}
 use borrow.Author.Needs.{needs}
 use Rattle.pathplus.proofs.pathplus_normal_form.Statement.{statement}
 use Rattle.pathplus.proofs.pathplus_normal_form.Tie as tie
@@ -12,7 +14,7 @@ normal-form-requires c κs = search needs
 
 -- src/lib.rt:226:5
 written-number-requires : tie.Need-written-number-requires
-written-number-requires c κs = ?
+written-number-requires c κs = short-writes normalForm short-normal _ _ _ _ (c .before .before .normal-form .ensures)
 
 -- src/lib.rt:222:1
 same-length : tie.Need-same-length
@@ -20,7 +22,7 @@ same-length c = search needs
 
 -- src/lib.rt:222:1
 returns : tie.Need-returns
-returns c = ?
+returns c = (_, c .written-number .ensures, short-writes normalForm short-normal _ _ _ _ (c .before .before .before .normal-form .ensures), c .before .before .before .normal-form .ensures)
 
 pub pathplus-normal-form-spec : {M : Type 1} → statement M
 pathplus-normal-form-spec =

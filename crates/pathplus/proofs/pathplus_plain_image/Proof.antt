@@ -1,3 +1,5 @@
+use Rattle.meaning.specs.Image.{plainImage}
+use Rattle.pathplus.proofs.Numbers.{short-writes, short-plain}
 use borrow.Author.Needs.{needs}
 use Rattle.pathplus.proofs.pathplus_plain_image.Statement.{statement}
 use Rattle.pathplus.proofs.pathplus_plain_image.Tie as tie
@@ -12,7 +14,7 @@ plain-image-requires c κs = search needs
 
 -- src/lib.rt:212:5
 written-number-requires : tie.Need-written-number-requires
-written-number-requires c κs = ?
+written-number-requires c κs = short-writes plainImage short-plain _ _ _ _ (c .before .before .plain-image .ensures)
 
 -- src/lib.rt:208:1
 same-length : tie.Need-same-length
@@ -20,7 +22,7 @@ same-length c = search needs
 
 -- src/lib.rt:208:1
 returns : tie.Need-returns
-returns c = ?
+returns c = (_, c .written-number .ensures, short-writes plainImage short-plain _ _ _ _ (c .before .before .before .plain-image .ensures), c .before .before .before .plain-image .ensures)
 
 pub pathplus-plain-image-spec : {M : Type 1} → statement M
 pathplus-plain-image-spec =

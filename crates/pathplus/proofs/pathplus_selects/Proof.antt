@@ -1,3 +1,4 @@
+use Rattle.pathplus.proofs.Numbers.{short-selects}
 use borrow.Author.Needs.{needs}
 use Rattle.pathplus.proofs.pathplus_selects.Statement.{statement}
 use Rattle.pathplus.proofs.pathplus_selects.Tie as tie
@@ -12,7 +13,7 @@ selects-requires c κs = search needs
 
 -- src/lib.rt:233:5
 told-number-requires : tie.Need-told-number-requires
-told-number-requires c κs = ?
+told-number-requires c κs = short-selects _ _ _ (c .before .before .selects .ensures)
 
 -- src/lib.rt:229:1
 same-length : tie.Need-same-length
@@ -20,7 +21,7 @@ same-length c = search needs
 
 -- src/lib.rt:229:1
 returns : tie.Need-returns
-returns c = ?
+returns c = (_, c .told-number .ensures, short-selects _ _ _ (c .before .before .before .selects .ensures), c .before .before .before .selects .ensures)
 
 pub pathplus-selects-spec : {M : Type 1} → statement M
 pathplus-selects-spec =

@@ -26,9 +26,11 @@ enum-told c = search needs
 -- src/lib.rt:97:30
 write-plain-image-requires : tie.Need-write-plain-image-requires
 write-plain-image-requires c κs = word-accepted _ (sym (ap checkedOf (c .before .enum-told .given .1)) ∙ c .before .before .before .check-word .ensures)
+
 -- src/lib.rt:92:1
 returns : tie.Need-returns
 returns c = writes-refused plainImage _ _ _ _ (word-refused _ _ _ (sym (ap checkedOf (c .before .number .given .1)) ∙ c .before .before .before .check-word .ensures))
+
 -- src/lib.rt:92:1
 same-length : tie.Need-same-length
 same-length c = search needs

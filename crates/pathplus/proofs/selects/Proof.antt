@@ -25,9 +25,11 @@ enum-told c = search needs
 -- src/lib.rt:170:30
 ask-requires : tie.Need-ask-requires
 ask-requires c κs = word-accepted _ (sym (ap checkedOf (c .before .enum-told .given .1)) ∙ c .before .before .before .check-word .ensures)
+
 -- src/lib.rt:165:1
 returns : tie.Need-returns
 returns c = selects-refused _ _ _ (word-refused _ _ _ (sym (ap checkedOf (c .before .number .given .1)) ∙ c .before .before .before .check-word .ensures))
+
 -- src/lib.rt:165:1
 same-length : tie.Need-same-length
 same-length c = search needs

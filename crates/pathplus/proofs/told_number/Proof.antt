@@ -1,3 +1,5 @@
+use mathlib.Core.Path.{_≡_, sym, subst}
+use Rattle.pathplus.specs.Answer.{toldOf, yesOf, numberOf, Short}
 use borrow.Author.Needs.{needs}
 use Rattle.pathplus.proofs.told_number.Statement.{statement}
 use Rattle.pathplus.proofs.told_number.Tie as tie
@@ -19,7 +21,7 @@ enum-known-answer c = search needs
 
 -- src/lib.rt:203:44
 packed-requires : tie.Need-packed-requires
-packed-requires c κs = ?
+packed-requires c κs = subst (λ a. Short (yesOf (toldOf a))) (c .before .answer .given .1) (c .before .before .before .pre)
 
 -- src/lib.rt:196:1
 returns : tie.Need-returns
@@ -31,7 +33,7 @@ returns-2 c = search needs
 
 -- src/lib.rt:196:1
 returns-3 : tie.Need-returns-3
-returns-3 c = ?
+returns-3 c = subst (λ a. c .packed .result ≡ numberOf (yesOf (toldOf a))) (sym (c .before .before .answer .given .1)) (c .packed .ensures)
 
 pub told-number-spec : {M : Type 1} → statement M
 told-number-spec =

@@ -61,9 +61,11 @@ slice-aggregate-form-length-5 c = search needs
 -- src/lib.rt:83:9
 form-length-requires : tie.Need-form-length-requires
 form-length-requires c κs = query-rows _ _ _ _ _ _ _ (c .before .before .before .before .before .before .before .before .before .before .minimal-rows .ensures) (c .before .before .before .before .before .before .before .before .before .before .before .before .before .before .before .before .before .before .pre)
+
 -- src/lib.rt:85:9
 returns : tie.Need-returns
 returns c = writes-short normalForm _ _ (c .before .before .before .before .before .before .before .before .before .before .before .before .before .before .before .before .before .before .before .before .pre .0) (c .before .before .before .before .before .before .before .before .before .before .before .before .before .before .before .before .before .before .before .before .pre .1) _ (c .before .form-length .ensures ∙ ap length (normal-written _ _ _ _ _ _ _ (c .before .before .before .before .before .before .before .before .before .before .before .before .minimal-rows .ensures) (c .before .before .before .before .before .before .before .before .before .before .before .before .before .before .before .before .before .before .before .before .pre) (c .before .before .before .before .before .before .before .before .before .before .before .before .before .before .before .before .before .before .before .before .pre .0) (c .before .before .before .before .before .before .before .before .before .before .before .before .before .before .before .before .before .before .before .before .pre .1))) (c .if1 .taken)
+
 -- src/lib.rt:87:24
 slice-aggregate-write-form : tie.Need-slice-aggregate-write-form
 slice-aggregate-write-form c = search needs
@@ -87,6 +89,7 @@ slice-aggregate-write-form-5 c = search needs
 -- src/lib.rt:87:5
 write-form-requires : tie.Need-write-form-requires
 write-form-requires c κs = (query-rows _ _ _ _ _ _ _ (c .before .before .before .before .before .before .before .before .before .before .before .before .before .before .before .before .before .before .minimal-rows .ensures) (c .before .before .before .before .before .before .before .before .before .before .before .before .before .before .before .before .before .before .before .before .before .before .before .before .before .before .pre), omega (arith, c .before .before .before .before .before .before .before .form-length .ensures, c .before .before .before .before .before .before .if1 .left))
+
 -- src/lib.rt:73:1
 same-length : tie.Need-same-length
 same-length c = search needs
@@ -95,6 +98,7 @@ same-length c = search needs
 returns-2 : tie.Need-returns-2
 returns-2 c = writes-done normalForm _ _ (c .before .before .before .before .before .before .before .before .before .before .before .before .before .before .before .before .before .before .before .before .before .before .before .before .before .before .before .before .before .pre .0) (c .before .before .before .before .before .before .before .before .before .before .before .before .before .before .before .before .before .before .before .before .before .before .before .before .before .before .before .before .before .pre .1) _ _ (c .before .before .before .before .before .before .before .before .before .before .form-length .ensures ∙ ap length (normal-written _ _ _ _ _ _ _ (c .before .before .before .before .before .before .before .before .before .before .before .before .before .before .before .before .before .before .before .before .before .minimal-rows .ensures) (c .before .before .before .before .before .before .before .before .before .before .before .before .before .before .before .before .before .before .before .before .before .before .before .before .before .before .before .before .before .pre) (c .before .before .before .before .before .before .before .before .before .before .before .before .before .before .before .before .before .before .before .before .before .before .before .before .before .before .before .before .before .pre .0) (c .before .before .before .before .before .before .before .before .before .before .before .before .before .before .before .before .before .before .before .before .before .before .before .before .before .before .before .before .before .pre .1))) (c .before .before .before .before .before .before .before .before .before .if1 .left)
     (c .before .before .write-form .ensures .1 ∙ ap (put _ 0) (normal-written _ _ _ _ _ _ _ (c .before .before .before .before .before .before .before .before .before .before .before .before .before .before .before .before .before .before .before .before .before .minimal-rows .ensures) (c .before .before .before .before .before .before .before .before .before .before .before .before .before .before .before .before .before .before .before .before .before .before .before .before .before .before .before .before .before .pre) (c .before .before .before .before .before .before .before .before .before .before .before .before .before .before .before .before .before .before .before .before .before .before .before .before .before .before .before .before .before .pre .0) (c .before .before .before .before .before .before .before .before .before .before .before .before .before .before .before .before .before .before .before .before .before .before .before .before .before .before .before .before .before .pre .1)))
+
 pub write-normal-form-spec : {M : Type 1} → statement M
 write-normal-form-spec =
     tie.close

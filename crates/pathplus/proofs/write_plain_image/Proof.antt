@@ -59,6 +59,7 @@ image-length-requires c κs = search needs
 -- src/lib.rt:47:9
 returns : tie.Need-returns
 returns c = writes-short plainImage _ _ (c .before .before .before .before .before .before .before .before .before .before .before .before .before .before .before .before .before .before .pre .0) (c .before .before .before .before .before .before .before .before .before .before .before .before .before .before .before .before .before .before .pre .1) _ (c .before .image-length .ensures ∙ ap length (image-listed (λ e. plainTree (plain e)) _ _ _ _ _ _ _ (c .before .before .before .before .before .before .before .before .before .before .plain-rows .ensures) (c .before .before .before .before .before .before .before .before .before .before .before .before .before .before .before .before .before .before .pre .0) (c .before .before .before .before .before .before .before .before .before .before .before .before .before .before .before .before .before .before .pre .1))) (c .if1 .taken)
+
 -- src/lib.rt:49:24
 slice-aggregate-write-image : tie.Need-slice-aggregate-write-image
 slice-aggregate-write-image c = search needs
@@ -83,6 +84,7 @@ same-length c = search needs
 returns-2 : tie.Need-returns-2
 returns-2 c = writes-done plainImage _ _ (c .before .before .before .before .before .before .before .before .before .before .before .before .before .before .before .before .before .before .before .before .before .before .before .before .before .pre .0) (c .before .before .before .before .before .before .before .before .before .before .before .before .before .before .before .before .before .before .before .before .before .before .before .before .before .pre .1) _ _ (c .before .before .before .before .before .before .before .before .image-length .ensures ∙ ap length (image-listed (λ e. plainTree (plain e)) _ _ _ _ _ _ _ (c .before .before .before .before .before .before .before .before .before .before .before .before .before .before .before .before .before .plain-rows .ensures) (c .before .before .before .before .before .before .before .before .before .before .before .before .before .before .before .before .before .before .before .before .before .before .before .before .before .pre .0) (c .before .before .before .before .before .before .before .before .before .before .before .before .before .before .before .before .before .before .before .before .before .before .before .before .before .pre .1))) (c .before .before .before .before .before .before .before .if1 .left)
     (c .before .before .write-image .ensures .1 ∙ ap (put _ 0) (image-listed (λ e. plainTree (plain e)) _ _ _ _ _ _ _ (c .before .before .before .before .before .before .before .before .before .before .before .before .before .before .before .before .before .plain-rows .ensures) (c .before .before .before .before .before .before .before .before .before .before .before .before .before .before .before .before .before .before .before .before .before .before .before .before .before .pre .0) (c .before .before .before .before .before .before .before .before .before .before .before .before .before .before .before .before .before .before .before .before .before .before .before .before .before .pre .1)))
+
 pub write-plain-image-spec : {M : Type 1} → statement M
 write-plain-image-spec =
     tie.close

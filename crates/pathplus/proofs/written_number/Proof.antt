@@ -1,3 +1,6 @@
+use mathlib.Core.Path.{_≡_, sym, subst}
+use native.Mathlib.Omega.{arith}
+use Rattle.pathplus.specs.Answer.{writtenOf, numberOf, Short}
 use borrow.Author.Needs.{needs}
 use Rattle.pathplus.proofs.written_number.Statement.{statement}
 use Rattle.pathplus.proofs.written_number.Tie as tie
@@ -11,7 +14,7 @@ enum-known-answer c = search needs
 
 -- src/lib.rt:190:37
 packed-requires : tie.Need-packed-requires
-packed-requires c κs = ?
+packed-requires c κs = (omega arith, subst (λ a. Short (writtenOf a)) (c .before .answer .given .1) (c .before .before .before .pre))
 
 -- src/lib.rt:191:28
 enum-known-answer-2 : tie.Need-enum-known-answer-2
@@ -19,15 +22,15 @@ enum-known-answer-2 c = search needs
 
 -- src/lib.rt:191:47
 packed-requires-2 : tie.Need-packed-requires-2
-packed-requires-2 c κs = ?
+packed-requires-2 c κs = subst (λ a. Short (writtenOf a)) (c .before .answer2 .given .1) (c .before .before .before .pre)
 
 -- src/lib.rt:185:1
 returns : tie.Need-returns
-returns c = ?
+returns c = subst (λ a. c .packed .result ≡ numberOf (writtenOf a)) (sym (c .before .before .answer .given .1)) (omega (arith, c .packed .ensures))
 
 -- src/lib.rt:185:1
 returns-2 : tie.Need-returns-2
-returns-2 c = ?
+returns-2 c = subst (λ a. c .packed2 .result ≡ numberOf (writtenOf a)) (sym (c .before .before .answer2 .given .1)) (c .packed2 .ensures)
 
 pub written-number-spec : {M : Type 1} → statement M
 written-number-spec =

@@ -82,6 +82,7 @@ slice-aggregate-keep-rows-6 c = search needs
 -- src/lib.rt:70:9
 keep-rows-requires : tie.Need-keep-rows-requires
 keep-rows-requires c κs = (folded-remains _ _ _ _ _ _ _ (c .before .before .before .before .before .before .before .before .before .before .before .before .before .before .before .before .before .plain-rows .ensures .rows) (c .before .before .before .before .before .before .before .fold-rows .ensures) (c .before .before .before .before .before .before .before .fold-rows .kept .1 .1 .1 .0), omega (arith, c .before .before .before .before .before .before .before .before .before .before .before .before .before .before .before .before .before .plain-rows .ensures .rows .few), omega (arith, c .before .before .before .before .before .before .before .before .before .before .before .before .before .before .before .before .before .plain-rows .ensures .rows .few))
+
 -- src/lib.rt:71:13
 slice-aggregate-rows-of : tie.Need-slice-aggregate-rows-of
 slice-aggregate-rows-of c = search needs
@@ -97,6 +98,7 @@ slice-aggregate-rows-of-3 c = search needs
 -- src/lib.rt:71:5
 rows-of-requires : tie.Need-rows-of-requires
 rows-of-requires c κs = (c .before .before .before .before .before .before .before .before .before .before .before .before .keep-rows .ensures .table, c .before .before .before .before .before .before .before .before .before .before .before .before .before .before .before .before .before .before .before .before .before .before .before .before .before .before .before .before .before .before .before .before .before .before .before .before .before .before .before .before .before .before .pre .1)
+
 -- src/lib.rt:57:1
 same-length : tie.Need-same-length
 same-length c = search needs
@@ -120,6 +122,7 @@ same-length-5 c = search needs
 -- src/lib.rt:57:1
 returns : tie.Need-returns
 returns c = minimal-rows _ _ _ _ _ _ _ _ _ _ _ _ _ _ _ _ _ (c .before .before .before .before .before .before .before .before .before .before .before .before .before .before .before .before .before .before .before .before .before .before .before .before .before .before .before .before .before .before .before .before .before .before .before .before .before .before .before .before .before .plain-rows .ensures) (c .before .before .before .before .before .before .before .before .before .before .before .before .before .before .before .before .before .before .before .before .before .before .before .before .before .before .before .before .before .before .before .fold-rows .ensures) (c .before .before .before .before .before .before .before .before .before .before .before .before .before .before .before .before .before .before .before .before .before .before .before .keep-rows .ensures) (c .before .before .before .before .before .before .before .before .before .before .rows-of .ensures)
+
 pub minimal-rows-spec : {M : Type 1} → statement M
 minimal-rows-spec =
     tie.close

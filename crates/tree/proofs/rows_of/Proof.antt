@@ -29,6 +29,7 @@ slice-aggregate-image-rows-5 c = search needs
 -- src/lib.rt:32:5
 image-rows-requires : tie.Need-image-rows-requires
 image-rows-requires c κs = (c .before .before .before .before .before .before .before .before .before .before .before .before .before .before .before .before .before .before .pre .0, omega (arith, c .before .before .before .before .before .before .before .before .before .before .before .before .before .before .before .before .before .before .pre .0 .few, c .before .before .before .before .before .before .before .before .before .before .before .before .before .before .before .before .before .before .pre .1 .codes, c .before .before .before .before .before .before .before .before .before .before .before .before .before .before .before .before .before .before .pre .1 .marks, c .before .before .before .before .before .before .before .before .before .before .before .before .before .before .before .before .before .before .pre .1 .counts, c .before .before .before .before .before .before .before .before .before .before .before .before .before .before .before .before .before .before .pre .1 .spans, c .before .before .before .before .before .before .before .before .before .before .before .before .before .before .before .before .before .before .pre .1 .ups))
+
 -- src/lib.rt:23:1
 same-length : tie.Need-same-length
 same-length c = search needs
