@@ -40,7 +40,7 @@ module _ (n : ℕ) (P L : List ℕ) (x i k : ℕ) (inv : depth n (table n P L) x
     depth-up p ep ne =
         let a : depth (n - k) (table n P L) i ≡ suc (depth (n - k - 1) (table n P L) (getD P i 0)) = opened (some (getD P i 0)) (parent-some (getD P i 0) ne) in
         let b : depth (n - k - 1) (table n P L) (getD P i 0) ≡ depth (n - (k + 1)) (table n P L) p =
-            rw (ep, (let q : n - k - 1 ≡ n - (k + 1) = omega arith in q)) in
+        rw (ep, (let q : n - k - 1 ≡ n - (k + 1) = omega arith in q)) in
         omega (arith, a, b)
 
   pub depth-out : k ≡ n → k ≡ depth n (table n P L) x

@@ -85,6 +85,7 @@ module _ (P L : List ℕ) (a m e s1 d1 s2 d2 : ℕ) (am : a ≤ m) (me : m ≤ e
       × ((take a (putMid a (length P - a) P P′) ≡ take a P) × (take a (putMid a (length L - a) L L′) ≡ take a L))
   lent-end both r P′ L′ ep el q =
       let lp : a ≤ length P = omega (arith, room .parents) in
-      let ll : a ≤ length L = omega (arith, room .labels) in
-      (rw (put-tail a P P′ lp ep, put-tail a L L′ ll el) (q ∙ ap (λ o. two (chosen both) o (some Q₂)) first-is ∙ ap (two (chosen both) (part P L a m s1 d1)) second-is),
-        (take-put a (length P - a) P P′ lp, take-put a (length L - a) L L′ ll))
+      let ll : a ≤ length L = omega (arith, room .labels) in (
+        rw (put-tail a P P′ lp ep, put-tail a L L′ ll el) (q ∙ ap (λ o. two (chosen both) o (some Q₂)) first-is ∙ ap (two (chosen both) (part P L a m s1 d1)) second-is),
+        (take-put a (length P - a) P P′ lp, take-put a (length L - a) L L′ ll),
+      )

@@ -118,7 +118,7 @@ used p (suc n) [] start e = never cc
 used p (suc n) (x ∷ es) start e =
     let rest = used p n es start (let z : stack p n ≡ map plain es = cc in z) in
     let here = part-most (p .parent) (p .label) (getD (p .first) n 0) (getD (p .first) (n + 1) 0) (getD (p .s) n 0) (getD (p .d) n 0) (suc (steps x))
-        (subst (AtMost (suc (steps x))) (let z : plain x ≡ operand p n = cc in z) (few-nodes x)) in
+    (subst (AtMost (suc (steps x))) (let z : plain x ≡ operand p n = cc in z) (few-nodes x)) in
     let next = ap (λ z. getD (p .first) z 0) (let z : n + 1 ≡ suc n = omega arith in z) in
     omega arith
 
@@ -131,9 +131,11 @@ module _ (p : Pool) (n v : ℕ) (e : Expr) (es : signOf v ≡ operandSign e) (ek
   pub push-asks : Passes p n v → (n < 256) × Sound p n × (getD (p .first) n 0 < 511)
   push-asks (st, st′, at, h, t) =
       let w = pushes st st′ at t in
-      let l = holds-length p n st h in
-      (omega (arith, w .few), h .stands .sound,
-        omega (arith, w .few, h .few, h .count, used p n (st .operands) (h .stands .sound .start) (h .stands .holds)))
+      let l = holds-length p n st h in (
+        omega (arith, w .few),
+        h .stands .sound,
+        omega (arith, w .few, h .few, h .count, used p n (st .operands) (h .stands .sound .start) (h .stands .holds)),
+      )
 
   pub push-holds : (p′ : Pool) (r : ℕ) → Stands p′ r (plain e ∷ stack p n) → (st st′ : Pending) (at : ℕ) → Holds p n st → takes v st at ≡ answered st′ → Holds p′ r st′
   push-holds p′ r s st st′ at h t =

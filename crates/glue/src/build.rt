@@ -33,7 +33,15 @@ ghost use Rattle.glue.specs.Pool.{pool, Holds, Passes, PlainRows};
 const CODE_TO_SIGN: u32 = FIRST_LABEL - 1;
 
 // One sign that the check of the word lets pass; gives the number of operands that are pending then.
-fn apply_sign(parent: &mut [u16], label: &mut [u32], first: &mut [u16], s: &mut [u16], d: &mut [u16], pending: usize, sign: u32) -> usize
+fn apply_sign(
+    parent: &mut [u16],
+    label: &mut [u32],
+    first: &mut [u16],
+    s: &mut [u16],
+    d: &mut [u16],
+    pending: usize,
+    sign: u32,
+) -> usize
     requires { ⌜ Passes (pool (now parent) (now label) (now first) (now s) (now d)) pending sign ⌝ }
     ensures { λ r. ⌜ ((st st′ : Pending) (at : ℕ) → Holds (pool (now (parent .entry)) (now (label .entry)) (now (first .entry)) (now (s .entry)) (now (d .entry))) pending st → takes sign st at ≡ answered st′ → Holds (pool (now (parent .exit)) (now (label .exit)) (now (first .exit)) (now (s .exit)) (now (d .exit))) r st′) ⌝ }
 {
@@ -53,7 +61,14 @@ fn apply_sign(parent: &mut [u16], label: &mut [u32], first: &mut [u16], s: &mut 
 
 // The word is accepted, and the caller lends 512 rows, 257 starts of operands and 256 marks of each kind; what they hold before does not matter.
 // Afterwards the first r.rows rows are the plain tree query, with its marks in r; no rows: empty.
-pub fn build(word: &[u8], parent: &mut [u16], label: &mut [u32], first: &mut [u16], s: &mut [u16], d: &mut [u16]) -> Built
+pub fn build(
+    word: &[u8],
+    parent: &mut [u16],
+    label: &mut [u32],
+    first: &mut [u16],
+    s: &mut [u16],
+    d: &mut [u16],
+) -> Built
     requires { ⌜ ((e : Expr) × (readWord (now word) ≡ answered e)) ⌝ }
     requires { ⌜ (512 ≤ length (now parent)) × (512 ≤ length (now label)) × (257 ≤ length (now first)) × (256 ≤ length (now s)) × (256 ≤ length (now d)) ⌝ }
     ensures { λ r. ⌜ andThen (readWord (now (word .entry))) (λ e. answered (plain e)) ≡ answered (builtOf r (now (parent .exit)) (now (label .exit))) ⌝ }
@@ -65,7 +80,11 @@ pub fn build(word: &[u8], parent: &mut [u16], label: &mut [u32], first: &mut [u1
     while at < word.len() {
         let Read::Number { value, next } = read_number(word, at) else {
             // no number of an accepted word is broken
-            return Built { rows: 0, s: 0, d: 0 };
+            return Built {
+                rows: 0,
+                s: 0,
+                d: 0,
+            };
         };
         pending = apply_sign(parent, label, first, s, d, pending, value);
         at = next;

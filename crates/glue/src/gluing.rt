@@ -32,7 +32,17 @@ pub struct Built {
 }
 
 // Glues row b to row a and their parents, level by level, until one has no parent or both are the same row. No row below `from` is taken out.
-fn glue_rows(parent: &mut [u16], label: &mut [u32], from: usize, rows: usize, a: usize, b: usize, s1: usize, d1: usize, d2: usize) -> Joined
+fn glue_rows(
+    parent: &mut [u16],
+    label: &mut [u32],
+    from: usize,
+    rows: usize,
+    a: usize,
+    b: usize,
+    s1: usize,
+    d1: usize,
+    d2: usize,
+) -> Joined
     requires { ⌜ Room rows (now parent) (now label) ⌝ }
     requires { ⌜ Safe from (table rows (now parent) (now label)) a b ⌝ }
     ensures { λ r. ⌜ joinedOf r (now (parent .exit)) (now (label .exit)) ≡ marked (glue rows (table rows (now (parent .entry)) (now (label .entry))) a b) s1 d1 d2 ⌝ }
@@ -60,17 +70,32 @@ fn glue_rows(parent: &mut [u16], label: &mut [u32], from: usize, rows: usize, a:
         d = renumber(x, y, d);
         e = renumber(x, y, e);
         if u == NO_ROW {
-            return Joined { rows: n, s, d, d2: e };
+            return Joined {
+                rows: n,
+                s,
+                d,
+                d2: e,
+            };
         }
         if v == NO_ROW {
-            return Joined { rows: n, s, d, d2: e };
+            return Joined {
+                rows: n,
+                s,
+                d,
+                d2: e,
+            };
         }
         let p = renumber(x, y, wide(u));
         let q = renumber(x, y, wide(v));
         x = p;
         y = q;
     }
-    Joined { rows: n, s, d, d2: e }
+    Joined {
+        rows: n,
+        s,
+        d,
+        d2: e,
+    }
 }
 
 // A link that counts from the first row of the other table.
@@ -120,7 +145,16 @@ fn depth_of(parent: &[u16], label: &[u32], n: usize, x: usize) -> usize
 }
 
 // "Composition glues the first's d to the second's s": the query in the first na rows, and that in the nb rows behind them.
-pub fn compose(parent: &mut [u16], label: &mut [u32], na: usize, nb: usize, s1: usize, d1: usize, s2: usize, d2: usize) -> Built
+pub fn compose(
+    parent: &mut [u16],
+    label: &mut [u32],
+    na: usize,
+    nb: usize,
+    s1: usize,
+    d1: usize,
+    s2: usize,
+    d2: usize,
+) -> Built
     requires { ⌜ Room (na + nb) (now parent) (now label) ⌝ }
     requires { ⌜ TreeQuery (query na (now parent) (now label) s1 d1) × TreeQuery (queryFrom na nb (now parent) (now label) s2 d2) ⌝ }
     ensures { λ r. ⌜ builtOf r (now (parent .exit)) (now (label .exit)) ≡ composed (query na (now (parent .entry)) (now (label .entry)) s1 d1) (queryFrom na nb (now (parent .entry)) (now (label .entry)) s2 d2) ⌝ }
@@ -135,7 +169,14 @@ pub fn compose(parent: &mut [u16], label: &mut [u32], na: usize, nb: usize, s1: 
 }
 
 // Glues row y to row x inside one tree; empty "when the two lie at different depths". The marks are s and x.
-fn glue_within(parent: &mut [u16], label: &mut [u32], n: usize, x: usize, y: usize, s: usize) -> Built
+fn glue_within(
+    parent: &mut [u16],
+    label: &mut [u32],
+    n: usize,
+    x: usize,
+    y: usize,
+    s: usize,
+) -> Built
     requires { ⌜ Room n (now parent) (now label) × (x < n) × (y < n) ⌝ }
     requires { ⌜ Tree (table n (now parent) (now label)) ⌝ }
     ensures { λ r. ⌜ builtOf r (now (parent .exit)) (now (label .exit)) ≡ placed (within (table n (now (parent .entry)) (now (label .entry))) x y) s x ⌝ }
@@ -143,7 +184,11 @@ fn glue_within(parent: &mut [u16], label: &mut [u32], n: usize, x: usize, y: usi
     let a = depth_of(parent, label, n, x);
     let b = depth_of(parent, label, n, y);
     if a != b {
-        return Built { rows: 0, s: 0, d: 0 };
+        return Built {
+            rows: 0,
+            s: 0,
+            d: 0,
+        };
     }
     let r = glue_rows(parent, label, 0, n, x, y, s, x, 0);
     Built {
@@ -154,7 +199,16 @@ fn glue_within(parent: &mut [u16], label: &mut [u32], n: usize, x: usize, y: usi
 }
 
 // "intersection glues s to s, then d to d in that result".
-pub fn intersect(parent: &mut [u16], label: &mut [u32], na: usize, nb: usize, s1: usize, d1: usize, s2: usize, d2: usize) -> Built
+pub fn intersect(
+    parent: &mut [u16],
+    label: &mut [u32],
+    na: usize,
+    nb: usize,
+    s1: usize,
+    d1: usize,
+    s2: usize,
+    d2: usize,
+) -> Built
     requires { ⌜ Room (na + nb) (now parent) (now label) ⌝ }
     requires { ⌜ TreeQuery (query na (now parent) (now label) s1 d1) × TreeQuery (queryFrom na nb (now parent) (now label) s2 d2) ⌝ }
     ensures { λ r. ⌜ builtOf r (now (parent .exit)) (now (label .exit)) ≡ intersected (query na (now (parent .entry)) (now (label .entry)) s1 d1) (queryFrom na nb (now (parent .entry)) (now (label .entry)) s2 d2) ⌝ }
@@ -162,7 +216,11 @@ pub fn intersect(parent: &mut [u16], label: &mut [u32], na: usize, nb: usize, s1
     shift_rows(parent, label, na, nb);
     let r = glue_rows(parent, label, na, na + nb, s1, na + s2, s1, d1, na + d2);
     if r.rows == 0 {
-        return Built { rows: 0, s: 0, d: 0 };
+        return Built {
+            rows: 0,
+            s: 0,
+            d: 0,
+        };
     }
     glue_within(parent, label, r.rows, r.d, r.d2, r.s)
 }

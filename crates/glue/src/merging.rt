@@ -92,7 +92,16 @@ pub fn or_else(u: u16, v: u16) -> u16
 
 // Row y is taken out of the n rows; x stands for it with the parent u and the label code l. The rows below `from` link to rows below `from`, and y is
 // none of them: they stay as they are.
-pub fn merge_rows(parent: &mut [u16], label: &mut [u32], from: usize, n: usize, x: usize, y: usize, u: u16, l: u32)
+pub fn merge_rows(
+    parent: &mut [u16],
+    label: &mut [u32],
+    from: usize,
+    n: usize,
+    x: usize,
+    y: usize,
+    u: u16,
+    l: u32,
+)
     requires { ⌜ (from ≤ y) × (y < n) × (x < n) × (x ≡ y → ⊥) × (n ≤ 512) × (n ≤ length (now parent)) × (n ≤ length (now label)) ⌝ }
     requires { ⌜ ((i p : ℕ) → i < from → parentOf (getD (now parent) i 0) ≡ some p → p < from) ⌝ }
     ensures { λ _. ⌜ table (n - 1) (now (parent .exit)) (now (label .exit)) ≡ merged (table n (now (parent .entry)) (now (label .entry))) x y (parentOf u) (labOf l) ⌝ }

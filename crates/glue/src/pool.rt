@@ -41,7 +41,18 @@ fn close(first: &mut [u16], s: &mut [u16], d: &mut [u16], k: usize, end: usize, 
 }
 
 // The query in rows a to m and the query in rows m to e, glued in one of the two ways; the rows before a stay.
-fn glue_at(parent: &mut [u16], label: &mut [u32], a: usize, m: usize, e: usize, s1: usize, d1: usize, s2: usize, d2: usize, both: bool) -> Built
+fn glue_at(
+    parent: &mut [u16],
+    label: &mut [u32],
+    a: usize,
+    m: usize,
+    e: usize,
+    s1: usize,
+    d1: usize,
+    s2: usize,
+    d2: usize,
+    both: bool,
+) -> Built
     requires { ⌜ (a ≤ m) × (m ≤ e) × Room e (now parent) (now label) ⌝ }
     requires { ⌜ TreeO (part (now parent) (now label) a m s1 d1) × TreeO (part (now parent) (now label) m e s2 d2) ⌝ }
     ensures { λ r. ⌜ builtOf r (drop a (now (parent .exit))) (drop a (now (label .exit))) ≡ two (chosen both) (part (now (parent .entry)) (now (label .entry)) a m s1 d1) (part (now (parent .entry)) (now (label .entry)) m e s2 d2) ⌝ }
@@ -49,19 +60,53 @@ fn glue_at(parent: &mut [u16], label: &mut [u32], a: usize, m: usize, e: usize, 
 {
     // "Empty in any operand gives empty."
     if a == m {
-        return Built { rows: 0, s: 0, d: 0 };
+        return Built {
+            rows: 0,
+            s: 0,
+            d: 0,
+        };
     }
     if m == e {
-        return Built { rows: 0, s: 0, d: 0 };
+        return Built {
+            rows: 0,
+            s: 0,
+            d: 0,
+        };
     }
     if both {
-        return intersect(&mut parent[a..], &mut label[a..], m - a, e - m, s1, d1, s2, d2);
+        return intersect(
+            &mut parent[a..],
+            &mut label[a..],
+            m - a,
+            e - m,
+            s1,
+            d1,
+            s2,
+            d2,
+        );
     }
-    compose(&mut parent[a..], &mut label[a..], m - a, e - m, s1, d1, s2, d2)
+    compose(
+        &mut parent[a..],
+        &mut label[a..],
+        m - a,
+        e - m,
+        s1,
+        d1,
+        s2,
+        d2,
+    )
 }
 
 // The two latest operands, the earlier as first, glued in one of the two ways.
-fn glue_latest(parent: &mut [u16], label: &mut [u32], first: &[u16], s: &[u16], d: &[u16], pending: usize, both: bool) -> Built
+fn glue_latest(
+    parent: &mut [u16],
+    label: &mut [u32],
+    first: &[u16],
+    s: &[u16],
+    d: &[u16],
+    pending: usize,
+    both: bool,
+) -> Built
     requires { ⌜ (2 ≤ pending) × Sound (pool (now parent) (now label) (now first) (now s) (now d)) pending × Trees (pool (now parent) (now label) (now first) (now s) (now d)) pending ⌝ }
     ensures { λ r. ⌜ Latest (pool (now (parent .entry)) (now (label .entry)) (now (first .entry)) (now (s .entry)) (now (d .entry))) pending both r (now (parent .exit)) (now (label .exit)) ⌝ }
 {
@@ -70,11 +115,30 @@ fn glue_latest(parent: &mut [u16], label: &mut [u32], first: &[u16], s: &[u16], 
     let a = entry(first, k);
     let m = entry(first, l);
     let e = entry(first, pending);
-    glue_at(parent, label, a, m, e, entry(s, k), entry(d, k), entry(s, l), entry(d, l), both)
+    glue_at(
+        parent,
+        label,
+        a,
+        m,
+        e,
+        entry(s, k),
+        entry(d, k),
+        entry(s, l),
+        entry(d, l),
+        both,
+    )
 }
 
 // "Signs 4 and 7 take the two latest operands, the earlier as first": their rows are used again for what comes of them.
-pub fn combine(parent: &mut [u16], label: &mut [u32], first: &mut [u16], s: &mut [u16], d: &mut [u16], pending: usize, both: bool) -> usize
+pub fn combine(
+    parent: &mut [u16],
+    label: &mut [u32],
+    first: &mut [u16],
+    s: &mut [u16],
+    d: &mut [u16],
+    pending: usize,
+    both: bool,
+) -> usize
     requires { ⌜ (2 ≤ pending) × Sound (pool (now parent) (now label) (now first) (now s) (now d)) pending × Trees (pool (now parent) (now label) (now first) (now s) (now d)) pending ⌝ }
     ensures { λ r. ⌜ Stands (pool (now (parent .exit)) (now (label .exit)) (now (first .exit)) (now (s .exit)) (now (d .exit))) r (combined both (stack (pool (now (parent .entry)) (now (label .entry)) (now (first .entry)) (now (s .entry)) (now (d .entry))) pending)) ⌝ }
 {
@@ -101,7 +165,15 @@ pub fn push_empty(first: &mut [u16], pending: usize) -> usize
 }
 
 // "self and a label give one node".
-pub fn push_node(parent: &mut [u16], label: &mut [u32], first: &mut [u16], s: &mut [u16], d: &mut [u16], pending: usize, code: u32) -> usize
+pub fn push_node(
+    parent: &mut [u16],
+    label: &mut [u32],
+    first: &mut [u16],
+    s: &mut [u16],
+    d: &mut [u16],
+    pending: usize,
+    code: u32,
+) -> usize
     requires { ⌜ (pending < 256) × Sound (pool (now parent) (now label) (now first) (now s) (now d)) pending × (getD (now first) pending 0 < 511) ⌝ }
     ensures { λ r. ⌜ Stands (pool (now (parent .exit)) (now (label .exit)) (now (first .exit)) (now (s .exit)) (now (d .exit))) r (some (oneNode (labOf code)) ∷ stack (pool (now (parent .entry)) (now (label .entry)) (now (first .entry)) (now (s .entry)) (now (d .entry))) pending) ⌝ }
 {
@@ -113,7 +185,16 @@ pub fn push_node(parent: &mut [u16], label: &mut [u32], first: &mut [u16], s: &m
 }
 
 // "child a top s with one child d; parent the same with s and d exchanged": the top is row 0, its child row 1, x and y are the marked rows.
-pub fn push_edge(parent: &mut [u16], label: &mut [u32], first: &mut [u16], s: &mut [u16], d: &mut [u16], pending: usize, x: usize, y: usize) -> usize
+pub fn push_edge(
+    parent: &mut [u16],
+    label: &mut [u32],
+    first: &mut [u16],
+    s: &mut [u16],
+    d: &mut [u16],
+    pending: usize,
+    x: usize,
+    y: usize,
+) -> usize
     requires { ⌜ (pending < 256) × Sound (pool (now parent) (now label) (now first) (now s) (now d)) pending × (getD (now first) pending 0 < 511) × (x < 2) × (y < 2) ⌝ }
     ensures { λ r. ⌜ Stands (pool (now (parent .exit)) (now (label .exit)) (now (first .exit)) (now (s .exit)) (now (d .exit))) r (some (twoNodes x y) ∷ stack (pool (now (parent .entry)) (now (label .entry)) (now (first .entry)) (now (s .entry)) (now (d .entry))) pending) ⌝ }
 {

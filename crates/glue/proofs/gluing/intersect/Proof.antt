@@ -1,10 +1,10 @@
-use borrow.Author.Needs.{needs}
+-- The tables lie side by side, s is glued to s, and then d to d in that result.
 use mathlib.Core.Path.{_∙_}
 use native.Mathlib.Omega.{arith}
+use borrow.Author.Needs.{needs}
 use Rattle.glue.proofs.Codes.{live-below}
 use Rattle.glue.proofs.Shift.{links-small}
 use Rattle.glue.proofs.TwoTrees.{safe-two, intersect-empty, intersect-mid}
-use borrow.Author.Needs.{needs}
 use Rattle.glue.proofs.gluing.intersect.Statement.{statement}
 use Rattle.glue.proofs.gluing.intersect.Tie as tie
 use Rattle.glue.proofs.gluing.intersect.Reads as reads
@@ -15,16 +15,20 @@ use Rattle.glue.proofs.gluing.shift_rows.Reads as shift-rows-reads
 
 shift-rows-requires : tie.Need-shift-rows-requires
 shift-rows-requires c κs = (c .before .before .before .before .pre .0, links-small _ _ _ (c .before .before .before .before .pre .1 .1 .tree) (let r = c .before .before .before .before .pre .0 .small in omega arith))
+
 add-glue-rows : tie.Need-add-glue-rows
 add-glue-rows c = search needs
 
 add-glue-rows-2 : tie.Need-add-glue-rows-2
 add-glue-rows-2 c = let r = c .before .before .before .before .before .before .before .before .before .pre .0 .small in let m = live-below _ _ _ _ (c .before .before .before .before .before .before .before .before .before .pre .1 .1 .sLive) in omega arith
+
 add-glue-rows-3 : tie.Need-add-glue-rows-3
 add-glue-rows-3 c = let r = c .before .before .before .before .before .before .before .before .before .pre .0 .small in let m = live-below _ _ _ _ (c .before .before .before .before .before .before .before .before .before .pre .1 .1 .dLive) in omega arith
+
 glue-rows-requires : tie.Need-glue-rows-requires
 glue-rows-requires c κs = let r = c .before .before .before .before .before .before .before .before .before .pre .0 in let k = c .before .before .before .before .shift-rows .kept .0 in
     (record { small = r .small; parents = omega arith; labels = r .labels }, safe-two _ _ _ _ _ _ _ _ (c .before .before .before .before .before .before .before .before .before .pre .1 .0) (c .before .before .before .before .before .before .before .before .before .pre .1 .1) _ (c .before .before .before .before .shift-rows .ensures) _ _ (c .before .before .before .before .before .before .before .before .before .pre .1 .0 .sLive) (c .before .before .before .before .before .before .before .before .before .pre .1 .1 .sLive))
+
 same-length : tie.Need-same-length
 same-length c = search needs
 
@@ -33,10 +37,12 @@ same-length-2 c = search needs
 
 returns : tie.Need-returns
 returns c = intersect-empty _ _ _ _ _ _ _ _ (c .before .before .before .before .before .before .before .before .before .before .before .before .before .before .before .before .pre .1 .0) (c .before .before .before .before .before .before .before .before .before .before .before .before .before .before .before .before .pre .1 .1) _ (c .before .before .before .before .before .before .before .before .before .before .before .shift-rows .ensures) (c .before .before .before .before .before .before .glue-rows .result) _ _ (c .before .before .before .before .before .before .glue-rows .ensures) (c .if1 .taken)
+
 glue-within-requires : tie.Need-glue-within-requires
 glue-within-requires c κs = let m = intersect-mid _ _ _ _ _ _ _ _ (c .before .before .before .before .before .before .before .before .before .before .before .before .before .before .before .before .before .before .pre .1 .0) (c .before .before .before .before .before .before .before .before .before .before .before .before .before .before .before .before .before .before .pre .1 .1) _ (c .before .before .before .before .before .before .before .before .before .before .before .before .before .shift-rows .ensures) (c .before .before .before .before .before .before .before .before .glue-rows .result) _ _ (c .before .before .before .before .before .before .before .before .glue-rows .ensures) (c .before .before .if1 .left) in
     let r = c .before .before .before .before .before .before .before .before .before .before .before .before .before .before .before .before .before .before .pre .0 in let k = c .before .before .before .before .before .before .before .before .before .before .before .before .before .shift-rows .kept .0 in let k0 = c .before .before .before .before .before .before .before .before .glue-rows .kept .0 in let k1 = c .before .before .before .before .before .before .before .before .glue-rows .kept .1 .0 in
     ((record { small = omega arith; parents = omega arith; labels = omega arith }, m .xn, m .yn), m .tree)
+
 same-length-3 : tie.Need-same-length-3
 same-length-3 c = search needs
 
@@ -45,6 +51,7 @@ same-length-4 c = search needs
 
 returns-2 : tie.Need-returns-2
 returns-2 c = c .before .before .before .before .glue-within .ensures ∙ (intersect-mid _ _ _ _ _ _ _ _ (c .before .before .before .before .before .before .before .before .before .before .before .before .before .before .before .before .before .before .before .before .before .before .before .pre .1 .0) (c .before .before .before .before .before .before .before .before .before .before .before .before .before .before .before .before .before .before .before .before .before .before .before .pre .1 .1) _ (c .before .before .before .before .before .before .before .before .before .before .before .before .before .before .before .before .before .before .shift-rows .ensures) (c .before .before .before .before .before .before .before .before .before .before .before .before .before .glue-rows .result) _ _ (c .before .before .before .before .before .before .before .before .before .before .before .before .before .glue-rows .ensures) (c .before .before .before .before .before .before .before .if1 .left)) .whole
+
 pub intersect-spec : {M : Type 1} → statement M
 intersect-spec =
     tie.close

@@ -1,7 +1,8 @@
-use borrow.Author.Needs.{needs}
+-- The loop shifts the links of the second table: `Shift`.
 use mathlib.Core.Path.{_≡_, refl}
 use Prim.Native.Nat.{_≤_, _-_, _+_}
 use native.Mathlib.Omega.{arith}
+use borrow.Author.Needs.{needs}
 use Rattle.glue.proofs.Shift.{Shift, shift-start, shift-small, shift-more, shift-end}
 use Rattle.glue.proofs.gluing.shift_rows.Statement.{statement}
 use Rattle.glue.proofs.gluing.shift_rows.Tie as tie
@@ -11,32 +12,46 @@ use Rattle.glue.proofs.gluing.shifted.Reads as shifted-reads
 
 abbrev Inv-loop : tie.InvT-loop
 Inv-loop parent₀ label na nb end i₀ parent i = (na ≤ i) × (i ≤ end) × (end ≡ na + nb) × Shift parent₀ na i parent
+
 abbrev μ-loop : tie.MeasureT-loop
 μ-loop parent₀ label na nb end i₀ parent i = end - i
+
 add-end : tie.Need-add-end Inv-loop μ-loop
 add-end c = search needs
+
 loop-holds : tie.Need-loop-holds Inv-loop μ-loop
 loop-holds c = (omega arith, omega arith, refl, shift-start _ _)
+
 mul-shifted : tie.Need-mul-shifted Inv-loop μ-loop
 mul-shifted c = search needs
+
 slice-read-shifted : tie.Need-slice-read-shifted Inv-loop μ-loop
 slice-read-shifted c = search needs
+
 shifted-requires : tie.Need-shifted-requires Inv-loop μ-loop
 shifted-requires c κs = (omega arith, shift-small _ _ _ _ _ (c .before .before .loop .inv .3) (c .before .before .loop .inv .0) (c .before .loop-test .taken) (c .before .before .before .before .before .pre .1))
+
 mul-parent : tie.Need-mul-parent Inv-loop μ-loop
 mul-parent c = search needs
+
 slice-write-parent : tie.Need-slice-write-parent Inv-loop μ-loop
 slice-write-parent c = search needs
+
 add-i : tie.Need-add-i Inv-loop μ-loop
 add-i c = search needs
+
 loop-less : tie.Need-loop-less Inv-loop μ-loop
 loop-less c = search needs
+
 loop-again : tie.Need-loop-again Inv-loop μ-loop
 loop-again c = (omega arith, omega arith, refl, shift-more _ _ _ _ _ (c .before .before .before .loop .inv .3) (c .before .before .before .loop .inv .0) (let h = c .before .before .before .loop .inv .3 .lenP in omega arith) (c .shifted .ensures))
+
 same-length : tie.Need-same-length Inv-loop μ-loop
 same-length c = search needs
+
 returns : tie.Need-returns Inv-loop μ-loop
 returns c = shift-end _ _ _ _ _ _ (c .before .loop .inv .3) (omega arith)
+
 pub shift-rows-spec : {M : Type 1} → statement M
 shift-rows-spec =
     tie.close

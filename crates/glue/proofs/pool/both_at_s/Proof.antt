@@ -1,8 +1,8 @@
+-- The marks of the latest operand move; all else stays.
+use mathlib.Core.Path.{refl}
 use borrow.Author.Needs.{needs}
 use Rattle.glue.specs.Pool.{pool}
-use mathlib.Core.Path.{refl}
 use Rattle.glue.proofs.Pushing.{first-stands}
-use borrow.Author.Needs.{needs}
 use Rattle.glue.proofs.pool.both_at_s.Statement.{statement}
 use Rattle.glue.proofs.pool.both_at_s.Tie as tie
 use Rattle.glue.proofs.pool.both_at_s.Reads as reads
@@ -24,5 +24,6 @@ same-length c = search needs
 
 returns : tie.Need-returns
 returns c = λ P L F sound. first-stands (pool P L F _ _) _ sound (c .before .before .before .before .before .before .before .pre .0) _ _ (c .before .before .before .entry .ensures .0) refl _ (c .before .before .put .ensures)
+
 pub both-at-s-spec : {M : Type 1} → statement M
 both-at-s-spec = tie.close (tie.spec sub-k entry-requires put-requires same-length returns)

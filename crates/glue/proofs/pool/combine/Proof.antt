@@ -1,7 +1,7 @@
-use borrow.Author.Needs.{needs}
+-- No rows come back, or fewer than the two operands had.
 use native.Mathlib.Omega.{arith}
-use Rattle.glue.proofs.Combining.{combine-fine, combine-empty, combine-some}
 use borrow.Author.Needs.{needs}
+use Rattle.glue.proofs.Combining.{combine-fine, combine-empty, combine-some}
 use Rattle.glue.proofs.pool.combine.Statement.{statement}
 use Rattle.glue.proofs.pool.combine.Tie as tie
 use Rattle.glue.proofs.pool.combine.Reads as reads
@@ -25,6 +25,7 @@ glue-latest-requires c κs = search needs
 
 put-requires : tie.Need-put-requires
 put-requires c κs = let h = c .before .before .before .before .before .before .before .before .before .before .before .before .before .before .before .before .before .before .before .before .pre .1 .firsts in let k = c .before .before .before .before .before .before .before .before .before .before .before .before .before .before .before .before .before .before .before .before .pre .1 .few in (omega arith, omega (arith, c .before .before .before .before .before .before .before .before .before .before .before .before .before .entry .ensures .1))
+
 same-length : tie.Need-same-length
 same-length c = search needs
 
@@ -42,12 +43,15 @@ same-length-5 c = search needs
 
 returns : tie.Need-returns
 returns c = combine-empty _ _ (c .before .before .before .before .before .before .before .before .before .before .before .before .before .before .before .before .before .before .before .before .before .before .before .pre .0) (c .before .before .before .before .before .before .before .before .before .before .before .before .before .before .before .before .before .before .before .before .before .before .before .pre .1) (c .before .before .before .before .before .before .before .before .before .before .before .before .before .before .before .before .before .before .before .before .before .before .before .pre .2) _ (c .before .before .before .before .before .before .before .before .before .before .before .before .before .before .before .before .entry .ensures .0) _ _ _ _ (c .before .before .before .before .before .before .before .before .before .before .glue-latest .ensures) (c .before .before .before .before .before .before .before .before .before .before .glue-latest .kept .0) (c .before .before .before .before .before .before .before .before .before .before .glue-latest .kept .1 .0) _ (c .before .before .before .before .if1 .taken) (c .before .before .put .ensures)
+
 add-close : tie.Need-add-close
 add-close c = let f = combine-fine _ _ (c .before .before .before .before .before .before .before .before .before .before .before .before .before .before .before .before .before .before .before .before .before .before .before .pre .0) (c .before .before .before .before .before .before .before .before .before .before .before .before .before .before .before .before .before .before .before .before .before .before .before .pre .1) (c .before .before .before .before .before .before .before .before .before .before .before .before .before .before .before .before .before .before .before .before .before .before .before .pre .2) _ (c .before .before .before .before .before .before .before .before .before .before .before .before .before .before .before .before .entry .ensures .0) _ _ _ _ (c .before .before .before .before .before .before .before .before .before .before .glue-latest .ensures) (c .before .before .before .before .if1 .left) in
     let e = c .before .before .before .before .before .before .before .before .before .before .before .before .before .before .before .before .before .before .before .before .before .before .before .pre .1 .end (c .before .before .before .before .before .before .before .before .before .before .before .before .before .before .before .before .before .before .before .before .before .before .before .args .pending) (omega arith) in omega (arith, c .before .before .before .before .before .before .before .before .before .before .before .before .before .before .before .before .entry .ensures .1)
+
 close-requires : tie.Need-close-requires
 close-requires c κs = let f = combine-fine _ _ (c .before .before .before .before .before .before .before .before .before .before .before .before .before .before .before .before .before .before .before .before .before .before .before .pre .0) (c .before .before .before .before .before .before .before .before .before .before .before .before .before .before .before .before .before .before .before .before .before .before .before .pre .1) (c .before .before .before .before .before .before .before .before .before .before .before .before .before .before .before .before .before .before .before .before .before .before .before .pre .2) _ (c .before .before .before .before .before .before .before .before .before .before .before .before .before .before .before .before .entry .ensures .0) _ _ _ _ (c .before .before .before .before .before .before .before .before .before .before .glue-latest .ensures) (c .before .before .before .before .if1 .left) in
     let h = c .before .before .before .before .before .before .before .before .before .before .before .before .before .before .before .before .before .before .before .before .before .before .before .pre .1 in let e = h .end (c .before .before .before .before .before .before .before .before .before .before .before .before .before .before .before .before .before .before .before .before .before .before .before .args .pending) (omega arith) in (omega arith, omega arith, omega arith, omega arith, omega arith, omega arith, omega arith)
+
 same-length-6 : tie.Need-same-length-6
 same-length-6 c = search needs
 
@@ -65,6 +69,7 @@ same-length-10 c = search needs
 
 returns-2 : tie.Need-returns-2
 returns-2 c = combine-some _ _ (c .before .before .before .before .before .before .before .before .before .before .before .before .before .before .before .before .before .before .before .before .before .before .before .before .before .before .before .before .before .before .pre .0) (c .before .before .before .before .before .before .before .before .before .before .before .before .before .before .before .before .before .before .before .before .before .before .before .before .before .before .before .before .before .before .pre .1) (c .before .before .before .before .before .before .before .before .before .before .before .before .before .before .before .before .before .before .before .before .before .before .before .before .before .before .before .before .before .before .pre .2) _ (c .before .before .before .before .before .before .before .before .before .before .before .before .before .before .before .before .before .before .before .before .before .before .before .entry .ensures .0) _ _ _ _ (c .before .before .before .before .before .before .before .before .before .before .before .before .before .before .before .before .before .glue-latest .ensures) (c .before .before .before .before .before .before .before .before .before .before .before .before .before .before .before .before .before .glue-latest .kept .0) (c .before .before .before .before .before .before .before .before .before .before .before .before .before .before .before .before .before .glue-latest .kept .1 .0) _ _ _ (c .before .before .before .before .before .before .before .before .before .before .before .if1 .left) (c .before .before .before .before .before .before .close .ensures .0) (c .before .before .before .before .before .before .close .ensures .1) (c .before .before .before .before .before .before .close .ensures .2)
+
 pub combine-spec : {M : Type 1} → statement M
 combine-spec =
     tie.close

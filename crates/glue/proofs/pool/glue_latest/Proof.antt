@@ -1,6 +1,6 @@
+-- The entries read are where the two latest operands start, end and are marked.
 use borrow.Author.Needs.{needs}
 use Rattle.glue.proofs.Combining.{latest-asks, latest-end}
-use borrow.Author.Needs.{needs}
 use Rattle.glue.proofs.pool.glue_latest.Statement.{statement}
 use Rattle.glue.proofs.pool.glue_latest.Tie as tie
 use Rattle.glue.proofs.pool.glue_latest.Reads as reads
@@ -37,6 +37,7 @@ entry-requires-7 c κs = search needs
 
 glue-at-requires : tie.Need-glue-at-requires
 glue-at-requires c κs = latest-asks _ _ (c .before .before .before .before .before .before .before .before .before .before .before .before .before .before .pre .0) _ _ _ _ _ _ _ (c .before .before .before .before .before .before .before .before .entry .ensures .0) (c .before .before .before .before .before .before .before .entry2 .ensures .0) (c .before .before .before .before .before .before .entry3 .ensures .0) (c .before .before .before .entry4 .ensures .0) (c .before .before .entry5 .ensures .0) (c .before .entry6 .ensures .0) (c .entry7 .ensures .0) (c .before .before .before .before .before .before .before .before .before .before .before .before .before .before .pre .1) (c .before .before .before .before .before .before .before .before .before .before .before .before .before .before .pre .2)
+
 same-length : tie.Need-same-length
 same-length c = search needs
 
@@ -45,6 +46,7 @@ same-length-2 c = search needs
 
 returns : tie.Need-returns
 returns c = latest-end _ _ (c .before .before .before .before .before .before .before .before .before .before .before .before .before .before .before .before .before .before .before .pre .0) _ _ _ _ _ _ _ (c .before .before .before .before .before .before .before .before .before .before .before .before .before .entry .ensures .0) (c .before .before .before .before .before .before .before .before .before .before .before .before .entry2 .ensures .0) (c .before .before .before .before .before .before .before .before .before .before .before .entry3 .ensures .0) (c .before .before .before .before .before .before .before .before .entry4 .ensures .0) (c .before .before .before .before .before .before .before .entry5 .ensures .0) (c .before .before .before .before .before .before .entry6 .ensures .0) (c .before .before .before .before .before .entry7 .ensures .0) _ _ _ _ (c .before .before .before .before .glue-at .ensures .0) (c .before .before .before .before .glue-at .ensures .1 .0) (c .before .before .before .before .glue-at .ensures .1 .1)
+
 pub glue-latest-spec : {M : Type 1} → statement M
 glue-latest-spec =
     tie.close

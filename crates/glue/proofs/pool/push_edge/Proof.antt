@@ -1,9 +1,9 @@
-use borrow.Author.Needs.{needs}
+-- Two rows are written behind the rows in use.
 use mathlib.Core.Path.{refl}
 use native.Mathlib.Omega.{arith}
 use lib.ListN.{length-set}
-use Rattle.glue.proofs.Pushing.{edge-stands}
 use borrow.Author.Needs.{needs}
+use Rattle.glue.proofs.Pushing.{edge-stands}
 use Rattle.glue.proofs.pool.push_edge.Statement.{statement}
 use Rattle.glue.proofs.pool.push_edge.Tie as tie
 use Rattle.glue.proofs.pool.push_edge.Reads as reads
@@ -28,6 +28,7 @@ mul-parent-2 c = search needs
 
 slice-write-parent-2 : tie.Need-slice-write-parent-2
 slice-write-parent-2 c = let h = c .before .before .before .before .before .before .before .pre .1 .parents in let e = c .entry .ensures .0 in rw length-set (omega arith)
+
 mul-label : tie.Need-mul-label
 mul-label c = search needs
 
@@ -39,6 +40,7 @@ mul-label-2 c = search needs
 
 slice-write-label-2 : tie.Need-slice-write-label-2
 slice-write-label-2 c = let h = c .before .before .before .before .before .before .before .pre .1 .labels in let e = c .entry .ensures .0 in rw length-set (omega arith)
+
 add-close : tie.Need-add-close
 add-close c = search needs
 
@@ -65,6 +67,7 @@ same-length-5 c = search needs
 
 returns : tie.Need-returns
 returns c = edge-stands _ _ _ (c .before .before .before .before .before .before .before .before .before .before .before .before .before .before .before .before .before .pre .1) (c .before .before .before .before .before .before .before .before .before .before .before .before .before .before .before .before .before .pre .0) (c .before .before .before .before .before .before .before .before .before .before .entry .ensures .0) _ _ _ (let e = c .before .before .before .before .before .before .before .before .before .before .entry .ensures .0 in omega arith) _ _ _ refl (c .before .before .before .before .before .before .close .ensures .0) (c .before .before .before .before .before .before .close .ensures .1) (c .before .before .before .before .before .before .close .ensures .2)
+
 pub push-edge-spec : {M : Type 1} → statement M
 push-edge-spec =
     tie.close

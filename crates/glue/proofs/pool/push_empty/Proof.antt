@@ -1,7 +1,7 @@
+-- The new operand ends where it starts.
 use borrow.Author.Needs.{needs}
 use Rattle.glue.specs.Pool.{pool}
 use Rattle.glue.proofs.Pushing.{empty-stands}
-use borrow.Author.Needs.{needs}
 use Rattle.glue.proofs.pool.push_empty.Statement.{statement}
 use Rattle.glue.proofs.pool.push_empty.Tie as tie
 use Rattle.glue.proofs.pool.push_empty.Reads as reads
@@ -26,6 +26,7 @@ same-length c = search needs
 
 returns : tie.Need-returns
 returns c = λ P L S D sound. empty-stands (pool P L _ S D) _ _ sound (c .before .before .before .before .before .before .before .pre .0) (c .before .before .before .before .entry .ensures .0) _ (c .before .before .put .ensures)
+
 pub push-empty-spec : {M : Type 1} → statement M
 push-empty-spec =
     tie.close (tie.spec entry-requires add-put put-requires add-result same-length returns)

@@ -1,7 +1,7 @@
-use borrow.Author.Needs.{needs}
+-- One row is written behind the rows in use.
 use native.Mathlib.Omega.{arith}
-use Rattle.glue.proofs.Pushing.{node-stands}
 use borrow.Author.Needs.{needs}
+use Rattle.glue.proofs.Pushing.{node-stands}
 use Rattle.glue.proofs.pool.push_node.Statement.{statement}
 use Rattle.glue.proofs.pool.push_node.Tie as tie
 use Rattle.glue.proofs.pool.push_node.Reads as reads
@@ -50,6 +50,7 @@ same-length-5 c = search needs
 
 returns : tie.Need-returns
 returns c = node-stands _ _ _ (c .before .before .before .before .before .before .before .before .before .before .before .before .before .before .before .before .before .pre .1) (c .before .before .before .before .before .before .before .before .before .before .before .before .before .before .before .before .before .pre .0) (c .before .before .before .before .before .before .before .before .before .before .entry .ensures .0) _ _ _ (let e = c .before .before .before .before .before .before .before .before .before .before .entry .ensures .0 in omega arith) _ (c .before .before .before .before .before .before .close .ensures .0) (c .before .before .before .before .before .before .close .ensures .1) (c .before .before .before .before .before .before .close .ensures .2)
+
 pub push-node-spec : {M : Type 1} → statement M
 push-node-spec =
     tie.close
