@@ -9,10 +9,10 @@ use native.Mathlib.Omega.{arith}
 use lib.ListN.{length, getD, set, take, drop, length-set}
 use lib.Seq.{getD-set-same}
 use Rattle.meaning.specs.TreeQuery.{Query, nodes, TreeQuery}
-use Rattle.meaning.specs.Gluing.{composed, intersected, two}
+use Rattle.meaning.specs.Gluing.{two}
 use Rattle.theory.proofs.Plain.{TreeO, Short, composed-tree, intersected-tree, composed-short, intersected-short}
 use Rattle.glue.specs.declared.gluing.Built.{Built}
-use Rattle.glue.specs.Rows.{table, ifRows, Room, query, queryFrom, part, builtOf}
+use Rattle.glue.specs.Rows.{ifRows, Room, query, queryFrom, part, builtOf}
 use Rattle.glue.specs.Pool.{Pool, pool, operand, stack, Sound, Stands, Trees, Latest, chosen, combined}
 use Rattle.glue.proofs.Codes.{length-table, live-below, rows-none, rows-some}
 use Rattle.glue.proofs.Parts.{part-none, part-some}

@@ -9,7 +9,7 @@ use crate::merging::wide;
 ghost use mathlib.Core.Path.{_≡_};
 ghost use mathlib.Core.Option.{some};
 ghost use Prim.Native.Nat.{ℕ, _+_, _≤_, _<_};
-ghost use lib.ListN.{length, getD, drop};
+ghost use lib.ListN.{getD, drop};
 ghost use Rattle.meaning.specs.Basics.{mapped};
 ghost use Rattle.meaning.specs.TreeQuery.{Tree, TreeQuery};
 ghost use Rattle.meaning.specs.Gluing.{glue, join, depth, within, placed, composed, intersected};

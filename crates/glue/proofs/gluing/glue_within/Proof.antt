@@ -1,5 +1,4 @@
 -- Different depths give empty; equal depths are glued.
-use native.Mathlib.Omega.{arith}
 use borrow.Author.Needs.{needs}
 use Rattle.glue.proofs.Shift.{links-in}
 use Rattle.glue.proofs.TwoTrees.{within-safe, within-none, within-end}
