@@ -8,10 +8,10 @@ use native.Mathlib.Decide.{ℕ-discrete}
 use native.Mathlib.Omega.{arith}
 use lib.ListN.{length, getD}
 use borrow.Author.Tests.{eq-eqb, ne-eqb}
-use Rattle.meaning.specs.TreeQuery.{Lab, lab, Row, node, Table, at, Live}
+use Rattle.meaning.specs.TreeQuery.{lab, Row, node, Table, at, Live}
 use Rattle.meaning.specs.Gluing.{meet, orElse}
 use Rattle.rows.specs.Rows.{labOf, noRow}
-use Rattle.theory.proofs.Look.{never, pick-yes, pick-no, live-lt}
+use Rattle.theory.proofs.Look.{pick-yes, pick-no, live-lt}
 use Rattle.glue.specs.Rows.{parentOf, rowAt, listed, table, ifRows}
 
 -- ------------------------------------------------------------------ parents

@@ -9,10 +9,10 @@ use native.Mathlib.Omega.{arith}
 use lib.ListN.{length, getD, set, take, drop, length-set}
 use lib.Seq.{getD-set-same}
 use Rattle.meaning.specs.TreeQuery.{Query, nodes, TreeQuery}
-use Rattle.meaning.specs.Gluing.{composed, intersected, two}
+use Rattle.meaning.specs.Gluing.{two}
 use Rattle.theory.proofs.Plain.{TreeO, Short, composed-tree, intersected-tree, composed-short, intersected-short}
 use Rattle.glue.specs.declared.gluing.Built.{Built}
-use Rattle.glue.specs.Rows.{table, ifRows, Room, query, queryFrom, part, builtOf}
+use Rattle.glue.specs.Rows.{ifRows, Room, query, queryFrom, part, builtOf}
 use Rattle.glue.specs.Pool.{Pool, pool, operand, stack, Sound, Stands, Trees, Latest, chosen, combined}
 use Rattle.glue.proofs.Codes.{length-table, live-below, rows-none, rows-some}
 use Rattle.glue.proofs.Parts.{part-none, part-some}
@@ -84,10 +84,10 @@ module _ (p : Pool) (n : ℕ) (le : 2 ≤ n) where
 
 -- ------------------------------------------------------------------ what is written back
 -- a result that has rows: fewer than the two operands together, and the marks among them
-pub record Fine (r : Built) (n : ℕ) : Type 0 where
-  pub less : r .rows < n
-  pub sIn : r .s < r .rows
-  pub dIn : r .d < r .rows
+record Fine (r : Built) (n : ℕ) : Type 0 where
+  less : r .rows < n
+  sIn : r .s < r .rows
+  dIn : r .d < r .rows
 
 module _ (p : Pool) (n : ℕ) (le : 2 ≤ n) (sound : Sound p n) (trees : Trees p n) (a : ℕ) (ea : a ≡ getD (p .first) (n - 2) 0)
     (both : Bool) (r : Built) (P′ L′ : List ℕ) (q : Latest p n both r P′ L′) where
@@ -110,7 +110,7 @@ module _ (p : Pool) (n : ℕ) (le : 2 ≤ n) (sound : Sound p n) (trees : Trees 
       let z₂ = ap (λ z. getD (p .first) z 0) (last p n le) in
       omega arith
 
-  pub combine-fine : r .rows ≢ 0 → Fine r (getD (p .first) n 0 - a)
+  combine-fine : r .rows ≢ 0 → Fine r (getD (p .first) n 0 - a)
   combine-fine ne = record {
     less = omega (arith, short, length-table (r .rows) (drop a P′) (drop a L′), rows-two);
     sIn = live-below (r .rows) (drop a P′) (drop a L′) (r .s) (tree .sLive);
@@ -128,6 +128,17 @@ module _ (p : Pool) (n : ℕ) (le : 2 ≤ n) (sound : Sound p n) (trees : Trees 
 
       short : suc (nodes made) ≤ nodesO (operand p (n - 2)) + nodesO (operand p (n - 1))
       short = subst (Short (nodesO (operand p (n - 2)) + nodesO (operand p (n - 1)))) here (facts .1)
+
+  pub combine-high : r .rows ≢ 0 → a + r .rows ≤ 512
+  combine-high ne = omega (arith, combine-fine ne .less, sound .end n (omega arith))
+
+  pub combine-asks : r .rows ≢ 0
+      → (n - 2 < 256) × (n - 2 + 1 < length (p .first)) × (n - 2 < length (p .s)) × (n - 2 < length (p .d)) × (a + r .rows < 65536) × (r .s < 65536) × (r .d < 65536)
+  combine-asks ne =
+      let f = combine-fine ne in
+      let h = combine-high ne in
+      let s = sound in
+      (omega arith, omega arith, omega arith, omega arith, omega arith, omega arith, omega arith)
 
   module _ (lp : length P′ ≡ length (p .parent)) (ll : length L′ ≡ length (p .label)) where
     -- operand n - 2 ends before row v

@@ -1,5 +1,5 @@
--- Laws over plain lists and numbers; the folders beside prove the functions with them.
-mod Codes
+-- Laws over plain lists and numbers; the folders beside prove the functions with them. What other crates cite is `pub mod`.
+pub mod Codes
 mod Merged
 mod Climb
 mod Shift

@@ -40,7 +40,7 @@ moved-cases x y i a b c d = by-cases (ℕ-discrete i y)
 pub moved-bound : (x y i b : ℕ) → x < b → i < b → moved x y i < b
 moved-bound x y i b lx li = moved-cases x y i (λ h e. omega arith) (λ h e. omega arith) (λ h e. omega arith) (λ h e. omega arith)
 
-pub moved-less : (x y i n : ℕ) → x ≢ y → x < n → y < n → i < n → suc (moved x y i) < n
+moved-less : (x y i n : ℕ) → x ≢ y → x < n → y < n → i < n → suc (moved x y i) < n
 moved-less x y i n ne lx ly li = moved-cases x y i (λ h e. omega arith) (λ h e. omega arith) (λ h e. omega arith) (λ h e. omega arith)
 
 -- the row of x

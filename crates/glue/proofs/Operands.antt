@@ -1,13 +1,12 @@
 -- One operand of the pool changes, the latest but none, one or two, and those below it stay: every sign is such a step.
 use mathlib.Core.Path.{_≡_, refl, sym, ap, _∙_}
-use mathlib.Core.Logic.{_≢_}
 use mathlib.Core.Option.{Option}
-use mathlib.Core.List.{List, [], _∷_}
+use mathlib.Core.List.{List, _∷_}
 use Prim.Native.Nat.{ℕ, zero, suc, _+_, _-_, _≤_, _<_}
 use native.Mathlib.Decide.{ℕ-discrete}
 use native.Mathlib.Omega.{arith}
-use lib.ListN.{length, getD, set, take, drop, length-set}
-use lib.Seq.{getD-take, getD-drop, getD-set-same, getD-set-other}
+use lib.ListN.{length, getD, set, take, drop}
+use lib.Seq.{getD-take, getD-drop, getD-set-other}
 use Rattle.meaning.specs.TreeQuery.{Query}
 use Rattle.glue.specs.Rows.{table, ifRows, part}
 use Rattle.glue.specs.Pool.{Pool, operand, stack, Sound, Stands}
@@ -49,7 +48,7 @@ pub record Step (p p′ : Pool) (n j v : ℕ) : Type 0 where
   pub lenD : length (p′ .d) ≡ length (p .d)
 
 -- where operands start only rises
-pub rise : (p : Pool) (n : ℕ) → Sound p n → (i j : ℕ) → i + j ≤ n → getD (p .first) i 0 ≤ getD (p .first) (i + j) 0
+rise : (p : Pool) (n : ℕ) → Sound p n → (i j : ℕ) → i + j ≤ n → getD (p .first) i 0 ≤ getD (p .first) (i + j) 0
 rise p n sound i zero le = let q : i + 0 ≡ i = omega arith in rw q (omega arith)
 rise p n sound i (suc j) le =
     let z = rise p n sound i j (omega arith) in

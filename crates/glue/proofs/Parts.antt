@@ -4,17 +4,16 @@ use mathlib.Core.Logic.{_≢_}
 use mathlib.Core.Bool.{Bool}
 use mathlib.Core.Option.{Option, none, some}
 use mathlib.Core.List.{List, [], _++_, append-nil}
-use Prim.Native.Nat.{ℕ, zero, suc, _+_, _-_, _≤_, _<_}
+use Prim.Native.Nat.{ℕ, _+_, _-_, _≤_}
 use native.Mathlib.Omega.{arith}
 use lib.ListN.{length, take, drop, length-drop}
 use lib.Seq.{take-all, drop-drop, drop-length, drop-at, length-take-le}
 use borrow.Rule.Slice.PartMut.{putMid, take-put}
 use Rattle.meaning.specs.TreeQuery.{Query, TreeQuery}
 use Rattle.meaning.specs.Gluing.{two}
-use Rattle.theory.proofs.Look.{never}
 use Rattle.theory.proofs.Plain.{TreeO}
 use Rattle.glue.specs.declared.gluing.Built.{Built}
-use Rattle.glue.specs.Rows.{table, Room, query, queryFrom, part, builtOf}
+use Rattle.glue.specs.Rows.{Room, query, queryFrom, part, builtOf}
 use Rattle.glue.specs.Pool.{chosen}
 use Rattle.glue.proofs.Codes.{rows-none, rows-some}
 

@@ -1,19 +1,18 @@
 -- An accepted word read once more: the pool holds what is pending, sign by sign, and at the end the plain tree query of the word's expression.
 use mathlib.Core.Path.{_≡_, refl, sym, ap, subst, _∙_}
-use mathlib.Core.Logic.{_≢_}
-use mathlib.Core.Option.{Option, none, some}
+use mathlib.Core.Option.{none, some}
 use mathlib.Core.List.{List, [], _∷_, map}
-use Prim.Native.Nat.{ℕ, zero, suc, _+_, _-_, _≤_, _<_}
+use Prim.Native.Nat.{ℕ, zero, suc, _-_, _≤_, _<_}
 use native.Mathlib.Decide.{ℕ-discrete}
 use native.Mathlib.Omega.{arith}
 use lib.ListN.{length, getD, set, length-set}
 use lib.Seq.{getD-set-same}
 use Rattle.meaning.specs.Expression.{Expr}
 use Rattle.meaning.specs.Number.{largestLabel, broken, readNumber}
-use Rattle.meaning.specs.TreeQuery.{lab, node, Query, TreeQuery}
+use Rattle.meaning.specs.TreeQuery.{node, Query, TreeQuery}
 use Rattle.meaning.specs.Gluing.{plain}
 use Rattle.meaning.specs.Word.{answered, andThen, Pending, takes, readWord}
-use Rattle.rows.specs.Rows.{labOf, noRow}
+use Rattle.rows.specs.Rows.{labOf}
 use Rattle.theory.proofs.Plain.{TreeO, AtMost, RowsIn, plain-means, means-tree, few-nodes, plain-labels}
 use Rattle.theory.proofs.Limits.{InRange}
 use Rattle.theory.proofs.Accepted.{accepted}
@@ -25,7 +24,7 @@ use Rattle.word.proofs.Run.{runFrom, nothingPending}
 use Rattle.word.proofs.Accepted.{accepted-start, accepted-end, accepted-number, accepted-sign}
 use Rattle.glue.specs.declared.gluing.Built.{Built}
 use Rattle.glue.specs.Rows.{parentOf, table, query, part, builtOf}
-use Rattle.glue.specs.Pool.{Pool, pool, operand, stack, Sound, Stands, Holds, Passes, PlainRows}
+use Rattle.glue.specs.Pool.{Pool, pool, operand, stack, Sound, Holds, Passes, PlainRows}
 use Rattle.glue.proofs.Codes.{parent-none, parent-some, length-table, at-table, row-table, live-below, rows-some}
 use Rattle.glue.proofs.Taking.{holds-length}
 

@@ -1,7 +1,7 @@
 -- A sign that is taken: what it does to the pending operands of the word, and so to the pool that holds their plain tree queries.
 use mathlib.Core.Path.{_≡_, refl, sym, ap, subst, _∙_}
 use mathlib.Core.Bool.{Bool, true, false, cond}
-use mathlib.Core.Option.{Option, none, some}
+use mathlib.Core.Option.{some}
 use mathlib.Core.List.{List, [], _∷_, map}
 use Prim.Native.Nat.{ℕ, zero, suc, _+_, _-_, _≤_, _<_}
 use native.Mathlib.Decide.{ℕ-discrete}
@@ -13,11 +13,11 @@ use Rattle.meaning.specs.Basics.{mapped}
 use Rattle.meaning.specs.Expression.{Expr, label, steps}
 use Rattle.meaning.specs.TreeQuery.{Query}
 use Rattle.meaning.specs.Gluing.{two, oneNode, plain}
-use Rattle.meaning.specs.Word.{Outcome, refused, answered, Sign, operand as operandSign, unary, binary, signOf, isStep, Pending, onOne, onTwo, counted, pushed, applied, takes}
+use Rattle.meaning.specs.Word.{refused, answered, operand as operandSign, unary, binary, signOf, isStep, Pending, onOne, onTwo, counted, pushed, takes}
 use Rattle.rows.specs.Rows.{labOf}
 use Rattle.theory.proofs.Look.{never}
 use Rattle.theory.proofs.Plain.{TreeO, AtMost, plain-means, means-tree, few-nodes}
-use Rattle.glue.specs.Rows.{table, ifRows, queryFrom, part}
+use Rattle.glue.specs.Rows.{ifRows, queryFrom, part}
 use Rattle.glue.specs.Pool.{Pool, operand, stack, Sound, Stands, Trees, chosen, combined, onTop, allSteps, Holds, Passes}
 use Rattle.glue.proofs.Codes.{length-table}
 

@@ -9,7 +9,7 @@ use crate::merging::wide;
 ghost use mathlib.Core.Path.{_≡_};
 ghost use mathlib.Core.Option.{some};
 ghost use Prim.Native.Nat.{ℕ, _+_, _≤_, _<_};
-ghost use lib.ListN.{length, getD, drop};
+ghost use lib.ListN.{getD, drop};
 ghost use Rattle.meaning.specs.Basics.{mapped};
 ghost use Rattle.meaning.specs.TreeQuery.{Tree, TreeQuery};
 ghost use Rattle.meaning.specs.Gluing.{glue, join, depth, within, placed, composed, intersected};
@@ -29,6 +29,12 @@ pub struct Built {
     pub rows: usize,
     pub s: usize,
     pub d: usize,
+}
+
+fn left_over(rows: usize, s: usize, d: usize, d2: usize) -> Joined
+    ensures { λ r. ⌜ r ≡ record { rows = rows; s = s; d = d; d2 = d2 } ⌝ }
+{
+    Joined { rows, s, d, d2 }
 }
 
 // Glues row b to row a and their parents, level by level, until one has no parent or both are the same row. No row below `from` is taken out.
@@ -57,12 +63,7 @@ fn glue_rows(
         let u = parent[x];
         let v = parent[y];
         let Met::Label(m) = meet_labels(label[x], label[y]) else {
-            return Joined {
-                rows: 0,
-                s: 0,
-                d: 0,
-                d2: 0,
-            };
+            return left_over(0, 0, 0, 0);
         };
         merge_rows(parent, label, from, n, x, y, or_else(u, v), m);
         n -= 1;
@@ -70,32 +71,17 @@ fn glue_rows(
         d = renumber(x, y, d);
         e = renumber(x, y, e);
         if u == NO_ROW {
-            return Joined {
-                rows: n,
-                s,
-                d,
-                d2: e,
-            };
+            return left_over(n, s, d, e);
         }
         if v == NO_ROW {
-            return Joined {
-                rows: n,
-                s,
-                d,
-                d2: e,
-            };
+            return left_over(n, s, d, e);
         }
         let p = renumber(x, y, wide(u));
         let q = renumber(x, y, wide(v));
         x = p;
         y = q;
     }
-    Joined {
-        rows: n,
-        s,
-        d,
-        d2: e,
-    }
+    left_over(n, s, d, e)
 }
 
 // A link that counts from the first row of the other table.

@@ -1,13 +1,13 @@
-use borrow.Author.Needs.{needs}
-use mathlib.Core.Path.{_≡_, refl, ap}
+-- Sign by sign: what the call asks for, and what it leaves.
+use mathlib.Core.Path.{refl, ap}
 use mathlib.Core.Bool.{true, false}
 use native.Mathlib.Omega.{arith}
+use borrow.Author.Needs.{needs}
 use Rattle.meaning.specs.Expression.{empty, self, child, parent, label, comp, inter, proj1, proj2, inv}
 use Rattle.meaning.specs.Gluing.{bothAtS, bothAtD, exchanged}
 use Rattle.meaning.specs.Word.{signOf, isStep}
 use Rattle.word.proofs.Signs.{sign-label}
 use Rattle.glue.proofs.Taking.{push-asks, push-holds, is-label, code-fits, no-step, label-stands, one-asks, one-holds, two-asks, two-holds}
-use borrow.Author.Needs.{needs}
 use Rattle.glue.proofs.build.apply_sign.Statement.{statement}
 use Rattle.glue.proofs.build.apply_sign.Tie as tie
 use Rattle.glue.proofs.build.apply_sign.Reads as reads

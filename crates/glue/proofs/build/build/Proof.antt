@@ -1,9 +1,11 @@
-use borrow.Author.Needs.{needs}
+-- The loop goes from sign to sign; `Reading` says which pending operands of the definition the pool holds.
+use mathlib.Core.Path.{refl, _∙_}
 use Prim.Native.Nat.{_-_}
 use native.Mathlib.Omega.{arith}
 use lib.ListN.{length, length-set}
+use borrow.Author.Needs.{needs}
 use Rattle.word.proofs.Numbers.{number-at}
-use mathlib.Core.Path.{refl, _∙_}
+use Rattle.word.proofs.number.read_number.Reads as read-number-reads
 use Rattle.glue.specs.Pool.{pool}
 use Rattle.glue.proofs.Reading.{Reading, SameLengths, reading-start, reading-broken, reading-passes, reading-next, reading-end}
 use Rattle.glue.proofs.build.build.Statement.{statement}
@@ -12,7 +14,6 @@ use Rattle.glue.proofs.build.build.Reads as reads
 use Rattle.glue.proofs.build.build.Lts as lts
 use Rattle.glue.proofs.build.apply_sign.Reads as apply-sign-reads
 use Rattle.glue.proofs.pool.entry.Reads as entry-reads
-use Rattle.word.proofs.number.read_number.Reads as read-number-reads
 
 abbrev Inv-loop : tie.InvT-loop
 Inv-loop word parent₀ label₀ first₀ s₀ d₀ pending₀ at₀ parent label first s d pending at = SameLengths (pool parent₀ label₀ first₀ s₀ d₀) (pool parent label first s d) × Reading word (pool parent label first s d) pending at

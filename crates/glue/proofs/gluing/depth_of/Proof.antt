@@ -1,7 +1,8 @@
-use borrow.Author.Needs.{needs}
+-- The loop goes up edge by edge, and there are fewer edges than rows.
 use mathlib.Core.Path.{_≡_}
 use Prim.Native.Nat.{_≤_, _<_, _-_, _+_}
 use native.Mathlib.Omega.{arith}
+use borrow.Author.Needs.{needs}
 use Rattle.meaning.specs.Gluing.{depth}
 use Rattle.glue.specs.Rows.{table}
 use Rattle.glue.proofs.Codes.{parent-some}

@@ -1,6 +1,7 @@
-use borrow.Author.Needs.{needs}
+-- The loop climbs level by level: `Climb`. Each merge takes a row out, so the number of rows falls.
 use mathlib.Core.Path.{refl, sym, ap, _∙_}
 use native.Mathlib.Omega.{arith}
+use borrow.Author.Needs.{needs}
 use Rattle.meaning.specs.Gluing.{moved}
 use Rattle.glue.specs.Rows.{metOf}
 use Rattle.glue.proofs.Climb.{Climb, climb-start, climb-same, climb-clash, climb-top-x, climb-top-y, climb-next, first-rows}
@@ -8,6 +9,7 @@ use Rattle.glue.proofs.gluing.glue_rows.Statement.{statement}
 use Rattle.glue.proofs.gluing.glue_rows.Tie as tie
 use Rattle.glue.proofs.gluing.glue_rows.Reads as reads
 use Rattle.glue.proofs.gluing.glue_rows.Lts as lts
+use Rattle.glue.proofs.gluing.left_over.Reads as left-over-reads
 use Rattle.glue.proofs.merging.meet_labels.Reads as meet-labels-reads
 use Rattle.glue.proofs.merging.merge_rows.Reads as merge-rows-reads
 use Rattle.glue.proofs.merging.or_else.Reads as or-else-reads
@@ -56,6 +58,9 @@ enum-known-m c = search needs
 enum-told : tie.Need-enum-told Inv-loop μ-loop
 enum-told c = search needs
 
+left-over-requires : tie.Need-left-over-requires Inv-loop μ-loop
+left-over-requires c κs = search needs
+
 same-length : tie.Need-same-length Inv-loop μ-loop
 same-length c = search needs
 
@@ -63,7 +68,7 @@ same-length-2 : tie.Need-same-length-2 Inv-loop μ-loop
 same-length-2 c = search needs
 
 returns : tie.Need-returns Inv-loop μ-loop
-returns c = climb-clash _ _ _ _ _ _ _ _ _ _ _ _ _ _ _ _ _ (c .before .before .before .before .before .before .before .before .loop .inv) (c .before .before .before .before .before .before .before .loop-test .taken) _ _ _ _ refl refl refl refl (sym (ap metOf (c .enum-told .given .1)) ∙ c .before .before .meet-labels .ensures)
+returns c = rw (c .left-over .ensures) (climb-clash _ _ _ _ _ _ _ _ _ _ _ _ _ _ _ _ _ (c .before .before .before .before .before .before .before .before .before .loop .inv) (c .before .before .before .before .before .before .before .before .loop-test .taken) _ _ _ _ refl refl refl refl (sym (ap metOf (c .before .enum-told .given .1)) ∙ c .before .before .before .meet-labels .ensures))
 
 or-else-requires : tie.Need-or-else-requires Inv-loop μ-loop
 or-else-requires c κs = search needs
@@ -84,6 +89,9 @@ renumber-requires-2 c κs = search needs
 renumber-requires-3 : tie.Need-renumber-requires-3 Inv-loop μ-loop
 renumber-requires-3 c κs = search needs
 
+left-over-requires-2 : tie.Need-left-over-requires-2 Inv-loop μ-loop
+left-over-requires-2 c κs = search needs
+
 same-length-3 : tie.Need-same-length-3 Inv-loop μ-loop
 same-length-3 c = search needs
 
@@ -91,8 +99,11 @@ same-length-4 : tie.Need-same-length-4 Inv-loop μ-loop
 same-length-4 c = search needs
 
 returns-2 : tie.Need-returns-2 Inv-loop μ-loop
-returns-2 c = rw (c .before .before .before .renumber .ensures, c .before .before .renumber2 .ensures, c .before .renumber3 .ensures)
-    (climb-top-x _ _ _ _ _ _ _ _ _ _ _ _ _ _ _ _ _ (c .before .before .before .before .before .before .before .before .before .before .before .before .before .before .before .before .before .before .before .before .before .loop .inv) (c .before .before .before .before .before .before .before .before .before .before .before .before .before .before .before .before .before .before .before .before .loop-test .taken) _ _ _ _ refl refl refl refl (c .before .before .before .before .before .before .before .before .before .before .before .before .before .m .given .0 .0) _ (sym (ap metOf (c .before .before .before .before .before .before .before .before .before .before .before .before .before .m .given .1)) ∙ c .before .before .before .before .before .before .before .before .before .before .before .before .before .before .before .meet-labels .ensures) (c .before .before .before .before .before .before .before .before .before .or-else .ensures) _ _ (c .before .before .before .before .before .before .before .before .merge-rows .ensures) (c .if1 .taken))
+returns-2 c = rw (c .left-over2 .ensures, c .before .before .before .before .renumber .ensures, c .before .before .before .renumber2 .ensures, c .before .before .renumber3 .ensures)
+    (climb-top-x _ _ _ _ _ _ _ _ _ _ _ _ _ _ _ _ _ (c .before .before .before .before .before .before .before .before .before .before .before .before .before .before .before .before .before .before .before .before .before .before .loop .inv) (c .before .before .before .before .before .before .before .before .before .before .before .before .before .before .before .before .before .before .before .before .before .loop-test .taken) _ _ _ _ refl refl refl refl (c .before .before .before .before .before .before .before .before .before .before .before .before .before .before .m .given .0 .0) _ (sym (ap metOf (c .before .before .before .before .before .before .before .before .before .before .before .before .before .before .m .given .1)) ∙ c .before .before .before .before .before .before .before .before .before .before .before .before .before .before .before .before .meet-labels .ensures) (c .before .before .before .before .before .before .before .before .before .before .or-else .ensures) _ _ (c .before .before .before .before .before .before .before .before .before .merge-rows .ensures) (c .before .if1 .taken))
+
+left-over-requires-3 : tie.Need-left-over-requires-3 Inv-loop μ-loop
+left-over-requires-3 c κs = search needs
 
 same-length-5 : tie.Need-same-length-5 Inv-loop μ-loop
 same-length-5 c = search needs
@@ -101,8 +112,8 @@ same-length-6 : tie.Need-same-length-6 Inv-loop μ-loop
 same-length-6 c = search needs
 
 returns-3 : tie.Need-returns-3 Inv-loop μ-loop
-returns-3 c = rw (c .before .before .before .before .renumber .ensures, c .before .before .before .renumber2 .ensures, c .before .before .renumber3 .ensures)
-    (climb-top-y _ _ _ _ _ _ _ _ _ _ _ _ _ _ _ _ _ (c .before .before .before .before .before .before .before .before .before .before .before .before .before .before .before .before .before .before .before .before .before .before .loop .inv) (c .before .before .before .before .before .before .before .before .before .before .before .before .before .before .before .before .before .before .before .before .before .loop-test .taken) _ _ _ _ refl refl refl refl (c .before .before .before .before .before .before .before .before .before .before .before .before .before .before .m .given .0 .0) _ (sym (ap metOf (c .before .before .before .before .before .before .before .before .before .before .before .before .before .before .m .given .1)) ∙ c .before .before .before .before .before .before .before .before .before .before .before .before .before .before .before .before .meet-labels .ensures) (c .before .before .before .before .before .before .before .before .before .before .or-else .ensures) _ _ (c .before .before .before .before .before .before .before .before .before .merge-rows .ensures) (c .before .if1 .left) (c .if2 .taken))
+returns-3 c = rw (c .left-over3 .ensures, c .before .before .before .before .before .renumber .ensures, c .before .before .before .before .renumber2 .ensures, c .before .before .before .renumber3 .ensures)
+    (climb-top-y _ _ _ _ _ _ _ _ _ _ _ _ _ _ _ _ _ (c .before .before .before .before .before .before .before .before .before .before .before .before .before .before .before .before .before .before .before .before .before .before .before .loop .inv) (c .before .before .before .before .before .before .before .before .before .before .before .before .before .before .before .before .before .before .before .before .before .before .loop-test .taken) _ _ _ _ refl refl refl refl (c .before .before .before .before .before .before .before .before .before .before .before .before .before .before .before .m .given .0 .0) _ (sym (ap metOf (c .before .before .before .before .before .before .before .before .before .before .before .before .before .before .before .m .given .1)) ∙ c .before .before .before .before .before .before .before .before .before .before .before .before .before .before .before .before .before .meet-labels .ensures) (c .before .before .before .before .before .before .before .before .before .before .before .or-else .ensures) _ _ (c .before .before .before .before .before .before .before .before .before .before .merge-rows .ensures) (c .before .before .if1 .left) (c .before .if2 .taken))
 
 wide-requires : tie.Need-wide-requires Inv-loop μ-loop
 wide-requires c κs = search needs
@@ -123,6 +134,9 @@ loop-again : tie.Need-loop-again Inv-loop μ-loop
 loop-again c = climb-next _ _ _ _ _ _ _ _ _ _ _ _ _ _ _ _ _ (c .before .before .before .before .before .before .before .before .before .before .before .before .before .before .before .before .before .before .before .before .before .before .before .before .before .before .loop .inv) (c .before .before .before .before .before .before .before .before .before .before .before .before .before .before .before .before .before .before .before .before .before .before .before .before .before .loop-test .taken) _ _ _ _ refl refl refl refl (c .before .before .before .before .before .before .before .before .before .before .before .before .before .before .before .before .before .before .m .given .0 .0) _ (sym (ap metOf (c .before .before .before .before .before .before .before .before .before .before .before .before .before .before .before .before .before .before .m .given .1)) ∙ c .before .before .before .before .before .before .before .before .before .before .before .before .before .before .before .before .before .before .before .before .meet-labels .ensures) (c .before .before .before .before .before .before .before .before .before .before .before .before .before .before .or-else .ensures) _ _ (c .before .before .before .before .before .before .before .before .before .before .before .before .before .merge-rows .ensures)
     (c .before .before .before .before .before .if1 .left) (c .before .before .before .before .if2 .left) (c .before .before .before .before .before .before .before .before .before .before .before .before .before .merge-rows .kept .0) (c .before .before .before .before .before .before .before .before .before .before .before .before .before .merge-rows .kept .1 .0) _ _ _ _ _ (c .before .before .renumber4 .ensures ∙ ap (moved _ _) (c .before .before .before .wide .ensures .0)) (c .renumber5 .ensures ∙ ap (moved _ _) (c .before .wide2 .ensures .0)) (c .before .before .before .before .before .before .before .before .renumber .ensures) (c .before .before .before .before .before .before .before .renumber2 .ensures) (c .before .before .before .before .before .before .renumber3 .ensures)
 
+left-over-requires-4 : tie.Need-left-over-requires-4 Inv-loop μ-loop
+left-over-requires-4 c κs = search needs
+
 same-length-7 : tie.Need-same-length-7 Inv-loop μ-loop
 same-length-7 c = search needs
 
@@ -130,7 +144,7 @@ same-length-8 : tie.Need-same-length-8 Inv-loop μ-loop
 same-length-8 c = search needs
 
 returns-4 : tie.Need-returns-4 Inv-loop μ-loop
-returns-4 c = climb-same _ _ _ _ _ _ _ _ _ _ _ _ _ _ _ _ _ (c .before .loop .inv) (c .loop-test .left)
+returns-4 c = rw (c .left-over4 .ensures) (climb-same _ _ _ _ _ _ _ _ _ _ _ _ _ _ _ _ _ (c .before .before .loop .inv) (c .before .loop-test .left))
 
 pub glue-rows-spec : {M : Type 1} → statement M
 glue-rows-spec =
@@ -150,6 +164,7 @@ glue-rows-spec =
     meet-labels-requires
     enum-known-m
     enum-told
+    left-over-requires
     same-length
     same-length-2
     returns
@@ -159,9 +174,11 @@ glue-rows-spec =
     renumber-requires
     renumber-requires-2
     renumber-requires-3
+    left-over-requires-2
     same-length-3
     same-length-4
     returns-2
+    left-over-requires-3
     same-length-5
     same-length-6
     returns-3
@@ -171,6 +188,7 @@ glue-rows-spec =
     renumber-requires-5
     loop-less
     loop-again
+    left-over-requires-4
     same-length-7
     same-length-8
     returns-4)

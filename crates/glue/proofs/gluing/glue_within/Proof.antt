@@ -1,8 +1,7 @@
+-- Different depths give empty; equal depths are glued.
 use borrow.Author.Needs.{needs}
-use native.Mathlib.Omega.{arith}
 use Rattle.glue.proofs.Shift.{links-in}
 use Rattle.glue.proofs.TwoTrees.{within-safe, within-none, within-end}
-use borrow.Author.Needs.{needs}
 use Rattle.glue.proofs.gluing.glue_within.Statement.{statement}
 use Rattle.glue.proofs.gluing.glue_within.Tie as tie
 use Rattle.glue.proofs.gluing.glue_within.Reads as reads

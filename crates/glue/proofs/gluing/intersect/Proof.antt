@@ -1,10 +1,10 @@
-use borrow.Author.Needs.{needs}
+-- The tables lie side by side, s is glued to s, and then d to d in that result.
 use mathlib.Core.Path.{_∙_}
 use native.Mathlib.Omega.{arith}
+use borrow.Author.Needs.{needs}
 use Rattle.glue.proofs.Codes.{live-below}
 use Rattle.glue.proofs.Shift.{links-small}
 use Rattle.glue.proofs.TwoTrees.{safe-two, intersect-empty, intersect-mid}
-use borrow.Author.Needs.{needs}
 use Rattle.glue.proofs.gluing.intersect.Statement.{statement}
 use Rattle.glue.proofs.gluing.intersect.Tie as tie
 use Rattle.glue.proofs.gluing.intersect.Reads as reads

@@ -1,7 +1,8 @@
-use borrow.Author.Needs.{needs}
+-- The loop shifts the links of the second table: `Shift`.
 use mathlib.Core.Path.{_≡_, refl}
 use Prim.Native.Nat.{_≤_, _-_, _+_}
 use native.Mathlib.Omega.{arith}
+use borrow.Author.Needs.{needs}
 use Rattle.glue.proofs.Shift.{Shift, shift-start, shift-small, shift-more, shift-end}
 use Rattle.glue.proofs.gluing.shift_rows.Statement.{statement}
 use Rattle.glue.proofs.gluing.shift_rows.Tie as tie

@@ -1,9 +1,9 @@
-use borrow.Author.Needs.{needs}
+-- A top has no link; any other link stays below 65,535.
 use mathlib.Core.Path.{ap}
 use Prim.Native.Nat.{_+_}
 use native.Mathlib.Omega.{arith}
-use Rattle.glue.proofs.Shift.{shifted-none, shifted-small, shifted-some}
 use borrow.Author.Needs.{needs}
+use Rattle.glue.proofs.Shift.{shifted-none, shifted-small, shifted-some}
 use Rattle.glue.proofs.gluing.shifted.Statement.{statement}
 use Rattle.glue.proofs.gluing.shifted.Tie as tie
 use Rattle.glue.proofs.gluing.shifted.Reads as reads

@@ -1,3 +1,4 @@
+-- One law for each way out.
 use native.Mathlib.Omega.{arith}
 use Rattle.glue.proofs.Codes.{meet-any-first, meet-any-second, meet-same, meet-clash}
 use Rattle.glue.proofs.merging.meet_labels.Statement.{statement}

@@ -1,7 +1,8 @@
-use borrow.Author.Needs.{needs}
+-- The loop takes row y out: `Half`. Then the row of x is written, wherever it stands now.
 use mathlib.Core.Path.{_≡_, refl}
 use Prim.Native.Nat.{_≤_, _-_}
 use native.Mathlib.Omega.{arith}
+use borrow.Author.Needs.{needs}
 use Rattle.glue.proofs.Merged.{Half, half-start, half-more, half-end, moved-row}
 use Rattle.glue.proofs.merging.merge_rows.Statement.{statement}
 use Rattle.glue.proofs.merging.merge_rows.Tie as tie

@@ -1,7 +1,7 @@
-use borrow.Author.Needs.{needs}
+-- One law for each way out.
 use native.Mathlib.Omega.{arith}
-use Rattle.glue.proofs.Merged.{before-low, before-high}
 use borrow.Author.Needs.{needs}
+use Rattle.glue.proofs.Merged.{before-low, before-high}
 use Rattle.glue.proofs.merging.number_before.Statement.{statement}
 use Rattle.glue.proofs.merging.number_before.Tie as tie
 use Rattle.glue.proofs.merging.number_before.Reads as reads

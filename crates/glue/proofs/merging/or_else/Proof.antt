@@ -1,3 +1,4 @@
+-- One law for each way out.
 use native.Mathlib.Omega.{arith}
 use Rattle.glue.proofs.Codes.{orElse-none, orElse-some}
 use Rattle.glue.proofs.merging.or_else.Statement.{statement}

@@ -1,10 +1,10 @@
-use borrow.Author.Needs.{needs}
+-- A top has no link; any other link stays below 65,535, since x does.
 use mathlib.Core.Path.{_∙_, ap}
 use native.Mathlib.Omega.{arith}
+use borrow.Author.Needs.{needs}
 use Rattle.meaning.specs.Gluing.{moved}
 use Rattle.rows.specs.Rows.{noRow}
 use Rattle.glue.proofs.Merged.{moved-bound, relinked-none, relinked-some}
-use borrow.Author.Needs.{needs}
 use Rattle.glue.proofs.merging.relinked.Statement.{statement}
 use Rattle.glue.proofs.merging.relinked.Tie as tie
 use Rattle.glue.proofs.merging.relinked.Reads as reads

@@ -1,7 +1,7 @@
-use borrow.Author.Needs.{needs}
+-- One law for each way out.
 use native.Mathlib.Omega.{arith}
-use Rattle.glue.proofs.Merged.{hit-high, hit-low, miss-high, miss-low}
 use borrow.Author.Needs.{needs}
+use Rattle.glue.proofs.Merged.{hit-high, hit-low, miss-high, miss-low}
 use Rattle.glue.proofs.merging.renumber.Statement.{statement}
 use Rattle.glue.proofs.merging.renumber.Tie as tie
 use Rattle.glue.proofs.merging.renumber.Reads as reads

@@ -1,8 +1,8 @@
+-- The marks of the latest operand move; all else stays.
+use mathlib.Core.Path.{refl}
 use borrow.Author.Needs.{needs}
 use Rattle.glue.specs.Pool.{pool}
-use mathlib.Core.Path.{refl}
 use Rattle.glue.proofs.Pushing.{first-stands}
-use borrow.Author.Needs.{needs}
 use Rattle.glue.proofs.pool.both_at_s.Statement.{statement}
 use Rattle.glue.proofs.pool.both_at_s.Tie as tie
 use Rattle.glue.proofs.pool.both_at_s.Reads as reads

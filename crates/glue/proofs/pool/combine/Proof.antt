@@ -1,7 +1,7 @@
-use borrow.Author.Needs.{needs}
+-- No rows come back, or fewer than the two operands had.
 use native.Mathlib.Omega.{arith}
-use Rattle.glue.proofs.Combining.{combine-fine, combine-empty, combine-some}
 use borrow.Author.Needs.{needs}
+use Rattle.glue.proofs.Combining.{combine-high, combine-asks, combine-empty, combine-some}
 use Rattle.glue.proofs.pool.combine.Statement.{statement}
 use Rattle.glue.proofs.pool.combine.Tie as tie
 use Rattle.glue.proofs.pool.combine.Reads as reads
@@ -45,12 +45,10 @@ returns : tie.Need-returns
 returns c = combine-empty _ _ (c .before .before .before .before .before .before .before .before .before .before .before .before .before .before .before .before .before .before .before .before .before .before .before .pre .0) (c .before .before .before .before .before .before .before .before .before .before .before .before .before .before .before .before .before .before .before .before .before .before .before .pre .1) (c .before .before .before .before .before .before .before .before .before .before .before .before .before .before .before .before .before .before .before .before .before .before .before .pre .2) _ (c .before .before .before .before .before .before .before .before .before .before .before .before .before .before .before .before .entry .ensures .0) _ _ _ _ (c .before .before .before .before .before .before .before .before .before .before .glue-latest .ensures) (c .before .before .before .before .before .before .before .before .before .before .glue-latest .kept .0) (c .before .before .before .before .before .before .before .before .before .before .glue-latest .kept .1 .0) _ (c .before .before .before .before .if1 .taken) (c .before .before .put .ensures)
 
 add-close : tie.Need-add-close
-add-close c = let f = combine-fine _ _ (c .before .before .before .before .before .before .before .before .before .before .before .before .before .before .before .before .before .before .before .before .before .before .before .pre .0) (c .before .before .before .before .before .before .before .before .before .before .before .before .before .before .before .before .before .before .before .before .before .before .before .pre .1) (c .before .before .before .before .before .before .before .before .before .before .before .before .before .before .before .before .before .before .before .before .before .before .before .pre .2) _ (c .before .before .before .before .before .before .before .before .before .before .before .before .before .before .before .before .entry .ensures .0) _ _ _ _ (c .before .before .before .before .before .before .before .before .before .before .glue-latest .ensures) (c .before .before .before .before .if1 .left) in
-    let e = c .before .before .before .before .before .before .before .before .before .before .before .before .before .before .before .before .before .before .before .before .before .before .before .pre .1 .end (c .before .before .before .before .before .before .before .before .before .before .before .before .before .before .before .before .before .before .before .before .before .before .before .args .pending) (omega arith) in omega (arith, c .before .before .before .before .before .before .before .before .before .before .before .before .before .before .before .before .entry .ensures .1)
+add-close c = let h = combine-high _ _ (c .before .before .before .before .before .before .before .before .before .before .before .before .before .before .before .before .before .before .before .before .before .before .before .pre .0) (c .before .before .before .before .before .before .before .before .before .before .before .before .before .before .before .before .before .before .before .before .before .before .before .pre .1) (c .before .before .before .before .before .before .before .before .before .before .before .before .before .before .before .before .before .before .before .before .before .before .before .pre .2) _ (c .before .before .before .before .before .before .before .before .before .before .before .before .before .before .before .before .entry .ensures .0) _ _ _ _ (c .before .before .before .before .before .before .before .before .before .before .glue-latest .ensures) (c .before .before .before .before .if1 .left) in omega arith
 
 close-requires : tie.Need-close-requires
-close-requires c κs = let f = combine-fine _ _ (c .before .before .before .before .before .before .before .before .before .before .before .before .before .before .before .before .before .before .before .before .before .before .before .pre .0) (c .before .before .before .before .before .before .before .before .before .before .before .before .before .before .before .before .before .before .before .before .before .before .before .pre .1) (c .before .before .before .before .before .before .before .before .before .before .before .before .before .before .before .before .before .before .before .before .before .before .before .pre .2) _ (c .before .before .before .before .before .before .before .before .before .before .before .before .before .before .before .before .entry .ensures .0) _ _ _ _ (c .before .before .before .before .before .before .before .before .before .before .glue-latest .ensures) (c .before .before .before .before .if1 .left) in
-    let h = c .before .before .before .before .before .before .before .before .before .before .before .before .before .before .before .before .before .before .before .before .before .before .before .pre .1 in let e = h .end (c .before .before .before .before .before .before .before .before .before .before .before .before .before .before .before .before .before .before .before .before .before .before .before .args .pending) (omega arith) in (omega arith, omega arith, omega arith, omega arith, omega arith, omega arith, omega arith)
+close-requires c κs = combine-asks _ _ (c .before .before .before .before .before .before .before .before .before .before .before .before .before .before .before .before .before .before .before .before .before .before .before .pre .0) (c .before .before .before .before .before .before .before .before .before .before .before .before .before .before .before .before .before .before .before .before .before .before .before .pre .1) (c .before .before .before .before .before .before .before .before .before .before .before .before .before .before .before .before .before .before .before .before .before .before .before .pre .2) _ (c .before .before .before .before .before .before .before .before .before .before .before .before .before .before .before .before .entry .ensures .0) _ _ _ _ (c .before .before .before .before .before .before .before .before .before .before .glue-latest .ensures) (c .before .before .before .before .if1 .left)
 
 same-length-6 : tie.Need-same-length-6
 same-length-6 c = search needs

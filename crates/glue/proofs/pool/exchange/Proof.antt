@@ -1,7 +1,7 @@
+-- The marks of the latest operand move; all else stays.
 use borrow.Author.Needs.{needs}
 use Rattle.glue.specs.Pool.{pool}
 use Rattle.glue.proofs.Pushing.{inverse-stands}
-use borrow.Author.Needs.{needs}
 use Rattle.glue.proofs.pool.exchange.Statement.{statement}
 use Rattle.glue.proofs.pool.exchange.Tie as tie
 use Rattle.glue.proofs.pool.exchange.Reads as reads

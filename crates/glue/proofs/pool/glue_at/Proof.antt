@@ -1,8 +1,8 @@
-use borrow.Author.Needs.{needs}
+-- An operand without rows gives empty; two with rows are lent from row a on.
 use mathlib.Core.Path.{refl}
 use mathlib.Core.Bool.{true, false}
-use Rattle.glue.proofs.Parts.{empty-first, empty-second, lent-room, lent-trees, lent-end}
 use borrow.Author.Needs.{needs}
+use Rattle.glue.proofs.Parts.{empty-first, empty-second, lent-room, lent-trees, lent-end}
 use Rattle.glue.proofs.pool.glue_at.Statement.{statement}
 use Rattle.glue.proofs.pool.glue_at.Tie as tie
 use Rattle.glue.proofs.pool.glue_at.Reads as reads

@@ -1,6 +1,6 @@
+-- The entries read are where the two latest operands start, end and are marked.
 use borrow.Author.Needs.{needs}
 use Rattle.glue.proofs.Combining.{latest-asks, latest-end}
-use borrow.Author.Needs.{needs}
 use Rattle.glue.proofs.pool.glue_latest.Statement.{statement}
 use Rattle.glue.proofs.pool.glue_latest.Tie as tie
 use Rattle.glue.proofs.pool.glue_latest.Reads as reads

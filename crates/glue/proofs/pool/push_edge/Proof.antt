@@ -1,9 +1,9 @@
-use borrow.Author.Needs.{needs}
+-- Two rows are written behind the rows in use.
 use mathlib.Core.Path.{refl}
 use native.Mathlib.Omega.{arith}
 use lib.ListN.{length-set}
-use Rattle.glue.proofs.Pushing.{edge-stands}
 use borrow.Author.Needs.{needs}
+use Rattle.glue.proofs.Pushing.{edge-stands}
 use Rattle.glue.proofs.pool.push_edge.Statement.{statement}
 use Rattle.glue.proofs.pool.push_edge.Tie as tie
 use Rattle.glue.proofs.pool.push_edge.Reads as reads

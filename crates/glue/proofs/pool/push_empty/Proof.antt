@@ -1,7 +1,7 @@
+-- The new operand ends where it starts.
 use borrow.Author.Needs.{needs}
 use Rattle.glue.specs.Pool.{pool}
 use Rattle.glue.proofs.Pushing.{empty-stands}
-use borrow.Author.Needs.{needs}
 use Rattle.glue.proofs.pool.push_empty.Statement.{statement}
 use Rattle.glue.proofs.pool.push_empty.Tie as tie
 use Rattle.glue.proofs.pool.push_empty.Reads as reads

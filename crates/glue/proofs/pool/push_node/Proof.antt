@@ -1,7 +1,7 @@
-use borrow.Author.Needs.{needs}
+-- One row is written behind the rows in use.
 use native.Mathlib.Omega.{arith}
-use Rattle.glue.proofs.Pushing.{node-stands}
 use borrow.Author.Needs.{needs}
+use Rattle.glue.proofs.Pushing.{node-stands}
 use Rattle.glue.proofs.pool.push_node.Statement.{statement}
 use Rattle.glue.proofs.pool.push_node.Tie as tie
 use Rattle.glue.proofs.pool.push_node.Reads as reads
