@@ -4,9 +4,6 @@ use crate::place::within;
 use pathplus::Told;
 use pathplus::Written;
 use report::Form;
-ghost use mathlib.Core.Path.{_≡_};
-ghost use Prim.Native.Nat.{_≤_, _<_};
-ghost use lib.ListN.{length};
 
 // What a buffer is filled with before the call.
 const FILLED: u8 = 0xA5;

@@ -9,10 +9,10 @@ use crate::place::numbers;
 use crate::place::past;
 use libc::STDOUT_FILENO;
 use report::Form;
-ghost use Prim.Native.Nat.{_+_, _≤_};
+ghost use Prim.Native.Nat.{_≤_};
 ghost use lib.ListN.{length};
 
-// A case has at most 16,384 bytes.
+// A byte more than the longest case has.
 pub const BUFFER: usize = 16385;
 
 // No list of parents or labels is longer.

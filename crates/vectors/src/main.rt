@@ -36,17 +36,23 @@ fn next_case(index: u64) -> u64
     run_case(index, &case, length)
 }
 
-// Makes the calls of so many cases, and answers how many there were.
-fn walk(cases: u32) -> u64 {
+// What was gone through.
+struct Counts {
+    cases: u32,
+    calls: u64,
+}
+
+// Goes through so many cases, or up to the first that is not whole.
+fn walk(cases: u32) -> Counts {
     let mut calls: u64 = 0;
     for i in 0..cases {
         let made = next_case(i as u64);
         if made == 0 {
-            return calls;
+            return Counts { cases: i, calls };
         }
         calls += made;
     }
-    calls
+    Counts { cases, calls }
 }
 
 fn is_corpus() -> bool {
@@ -55,13 +61,14 @@ fn is_corpus() -> bool {
     check::same(&name[..n], b"GULPHCO1")
 }
 
-fn write_counts(cases: u32, calls: u64) {
-    io::print_decimal(STDOUT_FILENO, cases as u64);
+fn write_counts(counts: Counts) {
+    io::print_decimal(STDOUT_FILENO, counts.cases as u64);
     io::write_all(STDOUT_FILENO, b" cases, ");
-    io::print_decimal(STDOUT_FILENO, calls);
+    io::print_decimal(STDOUT_FILENO, counts.calls);
     io::write_all(STDOUT_FILENO, b" calls\n");
 }
 
+// The corpus is "the eight bytes `GULPHCO1`, u32 number of cases, u32 length of the longest case, the cases".
 fn main() {
     if !is_corpus() {
         io::write_all(STDOUT_FILENO, b"no corpus\n");
@@ -69,7 +76,7 @@ fn main() {
     }
     let cases = next_number();
     next_number();
-    let calls = walk(cases);
+    let counts = walk(cases);
     limits::run();
-    write_counts(cases, calls);
+    write_counts(counts);
 }

@@ -15,13 +15,13 @@ enum-known-answer : tie.Need-enum-known-answer
 enum-known-answer c = search needs
 
 array-share-prefix-room : tie.Need-array-share-prefix-room
-array-share-prefix-room c = fits-counts (c .before .before .before .before .written .last .1 .1 .0) (c .before .answer .given .1) (c .before .before .before .before .written .ensures) (c .before .before .before .before .written .kept .1 .1 .0) .0
+array-share-prefix-room c = let w = c .before .before .before .before .written in fits-counts (w .last .1 .1 .0) (c .before .answer .given .1) (w .ensures) (w .kept .1 .1 .0) .0
 
 slice-aggregate-write-form : tie.Need-slice-aggregate-write-form
-slice-aggregate-write-form c = fits-counts (c .before .before .before .before .before .written .last .1 .1 .0) (c .before .before .answer .given .1) (c .before .before .before .before .before .written .ensures) (c .before .before .before .before .before .written .kept .1 .1 .0) .1
+slice-aggregate-write-form c = let w = c .before .before .before .before .before .written in fits-counts (w .last .1 .1 .0) (c .before .before .answer .given .1) (w .ensures) (w .kept .1 .1 .0) .1
 
 write-form-requires : tie.Need-write-form-requires
-write-form-requires c κs = let f = fits-counts (c .before .before .before .before .before .written .last .1 .1 .0) (c .before .before .answer .given .1) (c .before .before .before .before .before .written .ensures) (c .before .before .before .before .before .written .kept .1 .1 .0) in omega (arith, f .0, f .1, c .before .before .before .before .before .written .kept .1 .1 .0)
+write-form-requires c κs = let w = c .before .before .before .before .before .written in let f = fits-counts (w .last .1 .1 .0) (c .before .before .answer .given .1) (w .ensures) (w .kept .1 .1 .0) in omega (arith, f .0, f .1, w .kept .1 .1 .0)
 
 enum-known-answer-2 : tie.Need-enum-known-answer-2
 enum-known-answer-2 c = search needs
