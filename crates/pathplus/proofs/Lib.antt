@@ -1,4 +1,4 @@
-mod Writing
+pub mod Writing
 mod Asking
 mod Numbers
 mod OfRows
