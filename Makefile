@@ -1,14 +1,33 @@
 # The two commands of README.md are `make example` and `make test`.
 
-.PHONY: example test check
+PREFIX ?= /usr/local
+SECONDS ?= 50
+SEED ?= 20011
 
-# The main job. Until the program is there: prove every crate.
-example: check
+.PHONY: example test bench compare install
 
-# Proves every crate.
-check:
-	rt check
+# The main job: proves and builds the program, and brings one query to its smallest form.
+example:
+	rt check reduce
+	printf '\002\012\004\005\002\005\004' | target/bin/reduce
 
-# The gate: proofs from nothing, must-fail edits, and the second implementation.
+# The gate: proofs from nothing, must-fail edits, programs, the example client, and the comparison with the second implementation.
 test:
 	tools/test
+
+# The library beside a plain C implementation and libxml2.
+bench:
+	rt staticlib pathplus
+	bench/run
+
+# The library beside the second implementation, for as long as one likes: make compare SEED=7 SECONDS=3600
+compare:
+	rt staticlib pathplus
+	cargo run --release --quiet --manifest-path reference/compare/Cargo.toml --bin compare -- --seed $(SEED) --seconds $(SECONDS)
+
+# The archive and its header.
+install:
+	rt staticlib pathplus
+	install -d $(DESTDIR)$(PREFIX)/lib $(DESTDIR)$(PREFIX)/include
+	install -m 644 target/staticlib/libpathplus.a $(DESTDIR)$(PREFIX)/lib
+	install -m 644 include/pathplus.h $(DESTDIR)$(PREFIX)/include
