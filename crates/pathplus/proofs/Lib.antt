@@ -3,3 +3,4 @@ mod Asking
 mod Numbers
 mod OfRows
 mod Pairs
+pub mod Unique
