@@ -35,20 +35,20 @@ told-same (Told.Refused n p) (Told.Refused n′ p′) e = let a : n ≡ n′ = c
 
 -- ------------------------------------------------------------------ the four calls
 writer-unique : (form : Option Query → List ℕ) (word room : List ℕ) (r r′ : Written) (a a′ : List ℕ)
-  → Writes form word room (writtenOf r) a → Writes form word room (writtenOf r′) a′ → (r ≡ r′) × (a ≡ a′)
+    → Writes form word room (writtenOf r) a → Writes form word room (writtenOf r′) a′ → (r ≡ r′) × (a ≡ a′)
 writer-unique form word room r r′ a a′ w w′ =
-  let u = one-writing form word room (writtenOf r) (writtenOf r′) a a′ w w′ in (written-same r r′ (u .0), u .1)
+    let u = one-writing form word room (writtenOf r) (writtenOf r′) a a′ w w′ in (written-same r r′ (u .0), u .1)
 
 pub plain-image-unique : (word room : List ℕ) (r r′ : Written) (a a′ : List ℕ)
-  → PlainImage word room (writtenOf r) a → PlainImage word room (writtenOf r′) a′ → (r ≡ r′) × (a ≡ a′)
+    → PlainImage word room (writtenOf r) a → PlainImage word room (writtenOf r′) a′ → (r ≡ r′) × (a ≡ a′)
 plain-image-unique = writer-unique _
 
 pub minimal-image-unique : (word room : List ℕ) (r r′ : Written) (a a′ : List ℕ)
-  → MinimalImage word room (writtenOf r) a → MinimalImage word room (writtenOf r′) a′ → (r ≡ r′) × (a ≡ a′)
+    → MinimalImage word room (writtenOf r) a → MinimalImage word room (writtenOf r′) a′ → (r ≡ r′) × (a ≡ a′)
 minimal-image-unique = writer-unique _
 
 pub normal-form-unique : (word room : List ℕ) (r r′ : Written) (a a′ : List ℕ)
-  → NormalForm word room (writtenOf r) a → NormalForm word room (writtenOf r′) a′ → (r ≡ r′) × (a ≡ a′)
+    → NormalForm word room (writtenOf r) a → NormalForm word room (writtenOf r′) a′ → (r ≡ r′) × (a ≡ a′)
 normal-form-unique = writer-unique _
 
 -- the workspace holds bytes, before and after
@@ -57,10 +57,10 @@ selects-unique q r r′ a a′ b b′ s s′ = let u = one-reply q (toldOf r) (t
 
 -- ------------------------------------------------------------------ the numbers that C is given
 pub writes-c-unique : (form : Option Query → List ℕ) (word room : List ℕ) (r r′ : ℕ) (a a′ : List ℕ)
-  → WritesC form word room r a → WritesC form word room r′ a′ → (r ≡ r′) × (a ≡ a′)
+    → WritesC form word room r a → WritesC form word room r′ a′ → (r ≡ r′) × (a ≡ a′)
 writes-c-unique form word room r r′ a a′ (o, e, s, w) (o′, e′, s′, w′) =
-  let u = one-writing form word room o o′ a a′ w w′ in (e ∙ ap numberOf (u .0) ∙ sym e′, u .1)
+    let u = one-writing form word room o o′ a a′ w w′ in (e ∙ ap numberOf (u .0) ∙ sym e′, u .1)
 
 pub selects-c-unique : (q : Question) (r r′ : ℕ) (a a′ : List ℕ) → Bytes a → Bytes a′ → SelectedC q r a → SelectedC q r′ a′ → (r ≡ r′) × (a ≡ a′)
 selects-c-unique q r r′ a a′ b b′ (o, e, s, w) (o′, e′, s′, w′) =
-  let u = one-reply q o o′ a a′ b b′ w w′ in (e ∙ ap (λ x. numberOf (yesOf x)) (u .0) ∙ sym e′, u .1)
+    let u = one-reply q o o′ a a′ b b′ w w′ in (e ∙ ap (λ x. numberOf (yesOf x)) (u .0) ∙ sym e′, u .1)

@@ -66,7 +66,10 @@ empty-exactly = Same.empty-exactly
 pub smallest-tree : (e : Expr) (Q : Query) → TreeQuery Q → Agree (pairs e) (Selects Q) → size (minimalTree (plain e)) ≤ nodes Q
 smallest-tree = Least.smallest-tree
 
--- two tree queries of one meaning have one minimal tree, brothers in image order, and so one image
+-- two tree queries of one meaning have minimal trees with the same image; with brothers in image order they are one tree
+pub one-minimal-image : (P Q : Query) → TreeQuery P → TreeQuery Q → Agree (Selects P) (Selects Q) → image (minimal (treeOf P)) ≡ image (minimal (treeOf Q))
+one-minimal-image = Least.one-image
+
 pub one-minimal-tree : (P Q : Query) → TreeQuery P → TreeQuery Q → Agree (Selects P) (Selects Q) → ordered (minimal (treeOf P)) ≡ ordered (minimal (treeOf Q))
 one-minimal-tree = Least.one-query
 

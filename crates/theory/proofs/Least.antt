@@ -1,6 +1,6 @@
 -- Demand 3: no tree query of the same meaning has fewer nodes than the minimal one, no Path+ expression of any length with the same meaning has
 -- fewer parent and child steps than the normal form, and one meaning has one minimal tree, one image and one normal form.
-use mathlib.Core.Path.{_≡_, refl, sym, ap, subst}
+use mathlib.Core.Path.{_≡_, refl, sym, ap, subst, _∙_}
 use mathlib.Core.Option.{Option, none, some}
 use Prim.Native.Nat.{ℕ, suc, _-_, _≤_}
 use native.Mathlib.Omega.{arith}
@@ -18,7 +18,7 @@ use Rattle.theory.proofs.Folding.{folds-trans, Equal, equal-trans}
 use Rattle.theory.proofs.Minimal.{minimal-equal, minimal-to, minimal-from, minimal-reduced}
 use Rattle.theory.proofs.Unique.{minimal-same, sheds-to-minimal-same, smallest}
 use Rattle.theory.proofs.Order.{ordered-size, ordered-equal}
-use Rattle.theory.proofs.Records.{same-image, same-ordered}
+use Rattle.theory.proofs.Records.{image-ordered, same-image, same-ordered}
 use Rattle.theory.proofs.Count.{count, src, dst}
 use Rattle.theory.proofs.Marks.{query-tree}
 use Rattle.theory.proofs.Canon.{agree-equal}
@@ -49,6 +49,9 @@ one-query P Q p q ag =
     sym (same-ordered (minimal (treeOf Q)) (minimal (treeOf P))
     (minimal-same (treeOf P) (minimal (treeOf Q)) (minimal-reduced (treeOf Q))
     (equal-trans (treeOf P) (treeOf Q) (minimal (treeOf Q)) (agree-trees P Q p q ag) (minimal-equal (treeOf Q)))))
+
+pub one-image : (P Q : Query) → TreeQuery P → TreeQuery Q → Agree (Selects P) (Selects Q) → image (minimal (treeOf P)) ≡ image (minimal (treeOf Q))
+one-image P Q p q ag = sym (image-ordered (minimal (treeOf P))) ∙ ap image (one-query P Q p q ag) ∙ image-ordered (minimal (treeOf Q))
 
 -- whichever foldable brother is taken first, the end has the same image, and is the minimal tree once its brothers are in image order
 pub any-order : (f g : Forest Tag) → Sheds f g → Reduced g → (image g ≡ image (minimal f)) × (ordered g ≡ ordered (minimal f))
