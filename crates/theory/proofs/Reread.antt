@@ -72,12 +72,13 @@ module _ (word : List ℕ) where
   abbrev pub onFrom : ℕ → Pending → Outcome Expr
   onFrom at st = run (length word) word at st
 
-  run-past : (k at : ℕ) (st : Pending) → length word ≤ at → run k word at st ≡ atEnd word st
+  -- past the last byte the turns left over do nothing
+  pub run-past : (k at : ℕ) (st : Pending) → length word ≤ at → run k word at st ≡ atEnd word st
   unfolding run
   run-past zero at st le = refl
   run-past (suc k) at st le = rw (le-ltb at (length word) le)
 
-  run-one : (k at : ℕ) (st : Pending) → at < length word → run (suc k) word at st ≡ onNumber (λ next u. run k word next u) at st (readNumber word at)
+  pub run-one : (k at : ℕ) (st : Pending) → at < length word → run (suc k) word at st ≡ onNumber (λ next u. run k word next u) at st (readNumber word at)
   unfolding run
   run-one k at st lt = rw (lt-ltb at (length word) lt)
 

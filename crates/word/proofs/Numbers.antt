@@ -4,10 +4,10 @@ use mathlib.Core.Bool.{Bool, true, false, cond}
 use mathlib.Core.List.{List, [], _∷_}
 use Prim.Native.Nat.{ℕ, _+_, _-_, _*_, _<_}
 use native.Mathlib.Omega.{arith}
-use lib.ListN.{drop}
-use lib.Dec.{ltb, leb, eqb}
+use lib.Dec.{ltb, eqb}
 use borrow.Author.Tests.{eqb-false}
-use Rattle.meaning.specs.Number.{Got, got, broken, lone, groups, notAbove, largestSign, readNumber}
+use Rattle.meaning.specs.Number.{Got, got, broken, lone, groups, readNumber}
+use Rattle.theory.proofs.Reread.{number-read}
 use Rattle.word.specs.Answer.{gotOf}
 use Rattle.word.specs.declared.number.Read.{Read}
 use Rattle.word.specs.declared.number.Read.the-variants.{Number}
@@ -38,19 +38,6 @@ groups-got f (b ∷ bs) v n e = go (λ w k q. groups-got false bs w k q .1 refl)
         (omega arith, λ _. omega (arith, ih w k q))
     go ih false h broken q = absurd (broken-got (rw (h, q) at e))
 
-notAbove-got : (top : ℕ) (g : Got) (v n : ℕ) → notAbove top g ≡ got v n → g ≡ got v n
-notAbove-got top (got w k) v n e = go (leb w top) e
-  where
-    go : (t : Bool) → cond t (got w k) broken ≡ got v n → got w k ≡ got v n
-    go true q = q
-    go false q = absurd (broken-got q)
-notAbove-got top broken v n e = e
-
--- a number that was read takes a byte or more
-pub read-some : (w : List ℕ) (at v n : ℕ) → readNumber w at ≡ got v n → 0 < n
-unfolding readNumber
-read-some w at v n e = groups-got true (drop at w) v n (notAbove-got largestSign (groups true (drop at w)) v n e) .0
-
 -- a number stands at `at`, and `next` is the place behind its bytes
 pub record NumberAt (w : List ℕ) (at v next : ℕ) : Type 0 where
   pub bytes : ℕ
@@ -62,5 +49,5 @@ pub record NumberAt (w : List ℕ) (at v next : ℕ) : Type 0 where
 pub number-at : (w : List ℕ) (at : ℕ) {r : Read} {v next : ℕ} → gotOf at r ≡ readNumber w at → r ≡ Number v next → NumberAt w at v next
 number-at w at {r} {v} {next} e q =
     let g : readNumber w at ≡ got v (next - at) = sym (rw q at e) in
-    let l : 0 < next - at = read-some w at v (next - at) g in
+    let l : 0 < next - at = number-read w at v (next - at) g .1 in
     record { bytes = next - at; read = g; behind = omega arith; moved = omega arith }
