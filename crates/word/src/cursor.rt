@@ -15,10 +15,10 @@ pub struct Cursor {
 fn past(read: Read, at: usize) -> usize
     ensures { λ r. ⌜ r ≡ placePast at read ⌝ }
 {
-    let Read::Number { value: _, next } = read else {
-        return at;
-    };
-    next
+    match read {
+        Read::Number { value: _, next } => next,
+        Read::Broken => at,
+    }
 }
 
 // The number where the cursor stands; the cursor moves past it.
@@ -36,10 +36,10 @@ pub fn read_sign<'c, 'a>(cursor: &'c mut Cursor, word: &'a [u8]) -> Read
 fn at_place(read: Read, place: usize) -> Read
     ensures { λ r. ⌜ r ≡ atPlace place read ⌝ }
 {
-    let Read::Number { value, next: _ } = read else {
-        return Read::Broken;
-    };
-    Read::Number { value, next: place }
+    match read {
+        Read::Number { value, next: _ } => Read::Number { value, next: place },
+        Read::Broken => Read::Broken,
+    }
 }
 
 // The sign at a place, read with a cursor that starts there: what a loop over the signs calls, with the place as a plain number.

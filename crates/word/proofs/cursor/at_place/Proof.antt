@@ -11,12 +11,13 @@ enum-known-read c = search needs
 enum-told : tie.Need-enum-told
 enum-told c = search needs
 
-returns : tie.Need-returns
-returns c = search needs
-
 -- a number
+returns : tie.Need-returns
+returns c = rw (c .before .read .given .1)
+
+-- none that can be read
 returns-2 : tie.Need-returns-2
-returns-2 c = rw (c .before .read .given .1)
+returns-2 c = search needs
 
 pub at-place-spec : {M : Type 1} → statement M
 at-place-spec = tie.close (tie.spec enum-known-read enum-told returns returns-2)

@@ -26,14 +26,12 @@ use sound.WpLaws.{FmC, fmOf, WpFn-mono}
 use denote.RattleType.{owns}
 use denote.Laws.{Is, shows}
 use denote.Memory.{mem}
-use denote.Plain.{uint-makes, uint-lawful}
+use denote.Plain.{uint-lawful}
 use denote.Builtin.{u8, usize}
 use denote.Ref.{RefT, MutRef, ptr-vals, mut-tells, now}
 use denote.Signature.{plain}
 use denote.Slice.{sliceVal, ShrSlice, slice-vals, shr-slice-tells, shr-slice-lawful, shr-slice-copy}
-use denote.Steps.{only, opens, closes, owned, peeks, heard, nothing}
-use denote.Struct.Steps.{spelt}
-use denote.Struct.Laws as LL
+use denote.Steps.{only, opens, closes, peeks, heard, nothing}
 use denote.Triple.Statement.{Contract, Triple}
 use denote.Triple.Call.{calls-at}
 use denote.Triple.Entry.{Vals, onEntry}
@@ -47,10 +45,9 @@ use Rattle.word.specs.Answer.{gotOf}
 use Rattle.word.specs.Cursor.{placePast}
 use Rattle.word.specs.declared.number.Read.{Read}
 use Rattle.word.specs.declared.cursor.Cursor.{Cursor}
-use Rattle.word.proofs.Lending.{standing, machine, cursor-made, place-fits, read-typed, asks-nothing}
+use Rattle.word.proofs.Lending.{standing, machine, place-owned, cursor-owned, cursor-spelt, cursor-fits, read-seen, read-typed, asks-nothing}
 use Rattle.word.proofs.number.Read as S
 use Rattle.word.proofs.cursor.Cursor as T
-use Rattle.word.proofs.cursor.Cursor.Laws as T′
 use Rattle.word.proofs.number.read_number as rn
 use Rattle.word.proofs.number.read_number.Symbol as rn-def
 use Rattle.word.proofs.number.read_number.Symbol.{name as #read-number}
@@ -77,7 +74,12 @@ module _ {M : Type 1} (𝓤 : URA M) (H : Heap 𝓤) (A : Atoms 𝓤) (at-mem : 
   abbrev Past : Contract 𝓤
   Past = tripleOf 𝓤 H A past.signature (past.spec 𝓤 H A at-mem run)
 
-  module _ (W : Given 𝓤 H A) (κ κ′ : Lft) (q q′ : Share) (bounds : AllOutlive 2 (rs.signature .outlives) (κ, (κ′, tt))) (b o : ℕ) (γ : GName) (h : Cursor) (w : RefT (List ℕ)) where
+  -- what the walk is to show
+  abbrev Walk : Contract 𝓤
+  Walk = walkOf 𝓤 H A rs.ended stayed (rs.clauses 𝓤 H A at-mem run)
+
+  module _ (W : Given 𝓤 H A) (κ κ′ : Lft) (q q′ : Share) (bounds : AllOutlive 2 (rs.signature .outlives) (κ, (κ′, tt)))
+      (b o : ℕ) (γ : GName) (h : Cursor) (w : RefT (List ℕ)) where
     -- the arguments: a cursor h that is borrowed for κ, and a word that is shared for κ′; and their machine values
     abbrev args : RefT Cursor × (RefT (List ℕ) × Unit {0})
     args = (record { ptr = (b, o); name = γ; now = h }, (w, tt))
@@ -88,8 +90,8 @@ module _ {M : Type 1} (𝓤 : URA M) (H : Heap 𝓤) (A : Atoms 𝓤) (at-mem : 
     abbrev vals : List Val × (List Val × Unit {0})
     vals = (vptr b o ∷ [], (v ∷ [], tt))
 
-    abbrev Post : Val → SProp 𝓤
-    Post = walkOf 𝓤 H A rs.ended stayed (rs.clauses 𝓤 H A at-mem run) .post (((κ, (κ′, tt)), (q, (q′, tt)), bounds, args, vals), tt)
+    abbrev here : Walk .Ghost
+    here = (((κ, (κ′, tt)), (q, (q′, tt)), bounds, args, vals), tt)
 
     abbrev Word : Fml
     Word = ShrSlice (named 1) κ′ u8 .own w (v ∷ [])
@@ -125,54 +127,57 @@ module _ {M : Type 1} (𝓤 : URA M) (H : Heap 𝓤) (A : Atoms 𝓤) (at-mem : 
 
     -- what is left at exit, where the cursor stands at m and r was read
     abbrev left : ℕ → Read → Val → List (Item 𝓤)
-    left m r u = ‵ (fobs γ (T.the-row .coded .code (standing m))) ∷ ‵ (fbor κ (Body (mem T.the-row) b o γ)) ∷ ‵ (flft κ q) ∷ (‵ (flft κ′ q′) ⊛ ‵ ftrue) ∷ ‵ Word ∷ ‵ (S.the-row .own r (u ∷ [])) ∷ []
+    left m r u =
+        ‵ (fobs γ (T.the-row .coded .code (standing m))) ∷ ‵ (fbor κ (Body (mem T.the-row) b o γ)) ∷ ‵ (flft κ q) ∷ (‵ (flft κ′ q′) ⊛ ‵ ftrue) ∷ ‵ Word ∷ ‵ (S.the-row .own r (u ∷ [])) ∷ []
 
-    exits : (m : ℕ) (r : Read) (u : Val) → Found r → m ≡ placePast (h .at) r → ent 𝓤 (⋆ 𝓤 H A (left m r u)) (Post u)
+    exits : (m : ℕ) (r : Read) (u : Val) → Found r → m ≡ placePast (h .at) r → ent 𝓤 (⋆ 𝓤 H A (left m r u)) (Walk .post here u)
     exits m r u found moved =
         qed W (left m r u) ∵
-        suffices ! _ (ends-at 𝓤 H A rs.ended stayed (rs.clauses 𝓤 H A at-mem run) W (((κ, (κ′, tt)), (q, (q′, tt)), bounds, args, vals), tt) u r (standing m, (tt, tt)) (tt, (tt, tt))) $ says ! (found, moved) $
-        move ! (2 ∷ 3 ∷ []) $ join ! $
-        frame ! $ feqI ! (List Val) (vptr b o ∷ []) (vptr b o ∷ []) refl $ fjoin3 ! $ nothing ! $ move ! (2 ∷ 0 ∷ []) $ fjoin ! $ move ! (1 ∷ 0 ∷ []) $ fjoin ! $ done !
+        suffices ! _ (ends-at 𝓤 H A rs.ended stayed (rs.clauses 𝓤 H A at-mem run) W here u r (standing m, (tt, tt)) (tt, (tt, tt))) $ says ! (found, moved) $
+        move ! (2 ∷ 3 ∷ []) $ join ! $ frame ! $ feqI ! (List Val) (vptr b o ∷ []) (vptr b o ∷ []) refl $ fjoin3 ! $ nothing ! $ move ! (2 ∷ 0 ∷ []) $ fjoin ! $ move ! (1 ∷ 0 ∷ []) $ fjoin ! $ done !
 
     module _ (C : Calls 𝓤 H) (Λ : Loops 𝓤 H) (fm : FmC 𝓤 H (W .laws) C) (known : Triple 𝓤 (C #read-number) ReadNumber) (known2 : Triple 𝓤 (C #past) Past) where
       -- the comments list the context, front first; a local _i stands there with the room of its cell behind it
-      walk : Is (ShrSlice (named 1) κ′ u8) w (v ∷ []) → ent 𝓤 (onEntry 𝓤 H A rs.signature (κ, (κ′, tt)) (q, (q′, tt)) args vals) (WpFn 𝓤 H C Λ code.function (vptr b o ∷ v ∷ []) Post)
+      walk : Is (ShrSlice (named 1) κ′ u8) w (v ∷ [])
+          → ent 𝓤 (onEntry 𝓤 H A rs.signature (κ, (κ′, tt)) (q, (q′, tt)) args vals) (WpFn 𝓤 H C Λ code.function (vptr b o ∷ v ∷ []) (Walk .post here))
       walk p =
-          qed W ((‵ (flft κ q) ⊛ ‵ (flft κ′ q′) ⊛ ‵ ftrue) ∷ ‵ (owns (MutRef (named 0) κ T.the-row ∷ ShrSlice (named 1) κ′ u8 ∷ []) args vals) ∷ []) ∵ enter ! C Λ code.function (vptr b o ∷ v ∷ []) _ $
+          qed W ((‵ (flft κ q) ⊛ ‵ (flft κ′ q′) ⊛ ‵ ftrue) ∷ ‵ (owns (MutRef (named 0) κ T.the-row ∷ ShrSlice (named 1) κ′ u8 ∷ []) args vals) ∷ []) ∵
+          enter ! C Λ code.function (vptr b o ∷ v ∷ []) _ $
           alloc1 ! (λ l₀. alloc1 ! (λ l₁. alloc1 ! (λ l₂. alloc1 ! (λ l₃. alloc1 ! (λ l₄. alloc1 ! (λ l₅. alloc0 ! $
           params1 ! $ pass1 ! (init ! 8 refl (tt, tt)) $ pass1 ! (init ! 6 refl (shr-slice-lawful 𝓤 H A W (named 1) κ′ u8 .typed w (v ∷ []) p .0)) $ pass0 ! $
           -- the borrow of the cursor is opened, and its place is read
           move ! (13 ∷ []) $ fsplit ! $ fsplit3 ! $ drop ! $ move ! (15 ∷ []) $ split ! $ move ! (2 ∷ 3 ∷ 0 ∷ []) $
-          opens ! tt T.the-row {h = h} b o (λ vs. spelt ! T.the-row (Is T.the-row) (shows 𝓤 H A T.the-row) (LL.vals T.the-type T′.the-laws) (LL.tells T.the-type T′.the-laws) fullShare h vs b o $
-          move ! (1 ∷ []) $ peeks ! T.the-row (Is T.the-row) (shows 𝓤 H A T.the-row) h (machine (h .at) ∷ []) (λ was. move ! (1 ∷ 0 ∷ []) $
-          -- [the cursor's cell; what it owns; the open borrow; obs; auth; the word's token; what the word owns; _5; …; _4; …; _3; …; _2; …; _1; …; _0; …]
-          assigns ! (of-opd ! (load ! (from ! (hop ! (look ! 15 refl) (fld ! refl (stop !)))) (look-in ! 0 (sub ! 0 refl (whole !))))) (from ! (stop !)) (init ! 11 refl (tt, record { fits = place-fits h was })) $
+          opens ! tt T.the-row {h = h} b o (λ vs. cursor-spelt ! h vs b o $ move ! (1 ∷ []) $ cursor-fits ! h (λ fits.
+          -- [the cursor's cell; the open borrow; obs; auth; the word's token; what the word owns; _5; …; _4; …; _3; …; _2; …; _1; …; _0; …]
+          assigns ! (of-opd ! (load ! (from ! (hop ! (look ! 14 refl) (fld ! refl (stop !)))) (look-in ! 0 (sub ! 0 refl (whole !)))))
+          (from ! (stop !)) (init ! 10 refl (tt, record { fits = fits })) $
           -- what the word owns is had twice: one goes to the call with the token and the place, one stays for the exit
-          move ! (6 ∷ []) $ fsplit ! $ use1 W (‵ Word ⊛ ‵ Word) (shr-slice-copy 𝓤 H A W (named 1) κ′ u8 .twice w (v ∷ [])) $ split ! $
-          nothing ! $ owned ! usize (Is usize) (uint-makes 𝓤 H A W w64) (h .at) _ (refl, place-fits h was) $ fjoin ! $ move ! (1 ∷ 0 ∷ []) $ fjoin ! $
-          move ! (8 ∷ 0 ∷ []) $ use2 W (raw (ReadNumber .pre to)) asked $
-          -- [what the call asks; the word; true; the cursor's cell; what it owns; the open borrow; obs; auth; _5; …; _4; …; _3; …; _2; …; _1; …; _0; …]
-          calls-at ! fm ReadNumber known to (and-then ! (load ! (from ! (stop !)) (look ! 14 refl)) (and-then ! (load ! (from ! (stop !)) (look ! 12 refl)) (no-more !))) (λ u.
+          move ! (5 ∷ []) $ fsplit ! $ use1 W (‵ Word ⊛ ‵ Word) (shr-slice-copy 𝓤 H A W (named 1) κ′ u8 .twice w (v ∷ [])) $ split ! $
+          nothing ! $ place-owned ! (h .at) fits $ fjoin ! $ move ! (1 ∷ 0 ∷ []) $ fjoin ! $ move ! (7 ∷ 0 ∷ []) $ use2 W (raw (ReadNumber .pre to)) asked $
+          -- [what the call asks; the word; true; the cursor's cell; the open borrow; obs; auth; _5; …; _4; …; _3; …; _2; …; _1; …; _0; …]
+          calls-at ! fm ReadNumber known to (and-then ! (load ! (from ! (stop !)) (look ! 13 refl)) (and-then ! (load ! (from ! (stop !)) (look ! 11 refl)) (no-more !))) (λ u.
           use1 W (later (some (λ (r : Read). ((‵ (flft κ′ q′) ⊛ ‵ ftrue) ⊛ ‵ (S.the-row .own r (u ∷ []))) ⊛ raw (told r)))) (id⊢ 𝓤 _) $ await ! tt $ pick ! (λ r.
           split ! $ move ! (1 ∷ []) $ use1 W (raw (fact 𝓤 (Found r))) (said r) $ heard ! (Found r) (λ found. split ! $ move ! (1 ∷ []) $
-          -- [what was read; the word's token; the word; true; the cursor's cell; what it owns; the open borrow; obs; auth; _5; …; _4; …; _3; …; _2; …; _1; …; _0; …]
-          peeks ! S.the-row (Is S.the-row) (shows 𝓤 H A S.the-row) r (u ∷ []) (λ is. land ! (from ! (stop !)) (init ! 11 refl (read-typed 𝓤 H A W r u is)) $
+          -- [what was read; the word's token; the word; true; the cursor's cell; the open borrow; obs; auth; _5; …; _4; …; _3; …; _2; …; _1; …; _0; …]
+          read-seen ! r u (λ is. land ! (from ! (stop !)) (init ! 10 refl (read-typed 𝓤 H A W r u is)) $
           -- the second call: the place past what was read
-          use0 W (raw (Past .pre (to2 r u))) (asks-nothing 𝓤 H A W r u is (h .at) (place-fits h was)) $
-          calls-at ! fm Past known2 (to2 r u) (and-then ! (load ! (from ! (stop !)) (look ! 12 refl)) (and-then ! (load ! (from ! (stop !)) (look ! 14 refl)) (no-more !))) (λ u2.
+          use0 W (raw (Past .pre (to2 r u))) (asks-nothing 𝓤 H A W r u is (h .at) fits) $
+          calls-at ! fm Past known2 (to2 r u) (and-then ! (load ! (from ! (stop !)) (look ! 11 refl)) (and-then ! (load ! (from ! (stop !)) (look ! 13 refl)) (no-more !))) (λ u2.
           use1 W (later (some (λ (m : ℕ). (‵ ftrue ⊛ ‵ (usize .own m (u2 ∷ []))) ⊛ raw (told2 r m)))) (id⊢ 𝓤 _) $ await ! tt $ pick ! (λ m.
           split ! $ move ! (1 ∷ []) $ use1 W (raw (fact 𝓤 (m ≡ placePast (h .at) r))) (said2 r m) $ heard ! (m ≡ placePast (h .at) r) (λ moved. split ! $ drop ! $
-          -- [the place; what was read; the word's token; the word; true; the cursor's cell; what it owns; the open borrow; obs; auth; _5; …; _4; …; _3; …; _2; …; _1; …; _0; …]
-          peeks ! usize (Is usize) (shows 𝓤 H A usize) m (u2 ∷ []) (λ is2.
-          land ! (from ! (stop !)) (init ! 10 refl (uint-lawful 𝓤 H A W w64 .typed m _ is2 .0)) $ rewrite ! 10 (λ (y : Val). ‵ (fat fullShare (tyInt w64) l₅ 0 y)) (ap only (is2 .0)) refl $
+          -- [the place; what was read; the word's token; the word; true; the cursor's cell; the open borrow; obs; auth; _5; …; _4; …; _3; …; _2; …; _1; …; _0; …]
+          peeks ! usize (Is usize) (shows 𝓤 H A usize) m (u2 ∷ []) (λ is2. land ! (from ! (stop !)) (init ! 9 refl (uint-lawful 𝓤 H A W w64 .typed m _ is2 .0)) $
+          rewrite ! 9 (λ (y : Val). ‵ (fat fullShare (tyInt w64) l₅ 0 y)) (ap only (is2 .0)) refl $
           -- the place is stored, and the borrow is closed over it
-          assigns ! (of-opd ! (load ! (from ! (stop !)) (look ! 10 refl))) (from ! (hop ! (look ! 18 refl) (fld ! refl (stop !)))) (store-in ! 5 (sub ! 0 refl (whole !)) (tt, record { fits = is2 .1 })) $
-          move ! (6 ∷ []) $ drop ! $ owned ! T.the-row (Is T.the-row) ((LL.makes T.the-type T′.the-plain) 𝓤 H A) (standing m) _ (cursor-made m (is2 .1)) $
-          move ! (6 ∷ 0 ∷ 7 ∷ 8 ∷ 9 ∷ []) $ closes ! tt T.the-row (standing m) (machine m ∷ []) b o $
+          assigns ! (of-opd ! (load ! (from ! (stop !)) (look ! 9 refl)))
+          (from ! (hop ! (look ! 17 refl) (fld ! refl (stop !)))) (store-in ! 5 (sub ! 0 refl (whole !)) (tt, record { fits = is2 .1 })) $
+          cursor-owned ! m (is2 .1) $ move ! (6 ∷ 0 ∷ 7 ∷ 8 ∷ 9 ∷ []) $ closes ! tt T.the-row (standing m) (machine m ∷ []) b o $
           -- [obs; the borrow; the cursor's token; the place; what was read; the word's token; the word; true; _5; …; _4; …; _3; …; _2; …; _1; …; _0; …]
           assigns ! (of-opd ! (load ! (from ! (stop !)) (look ! 10 refl))) (from ! (stop !)) (init ! 18 refl (read-typed 𝓤 H A W r u is)) $
-          returns ! (look ! 18 refl) $ forget ! 8 refl $ forget ! 10 refl $ forget ! 12 refl $ forget ! 14 refl $ forget ! 16 refl $ forget ! 18 refl $
-          move ! (18 ∷ 19 ∷ []) $ free1 ! $ move ! (16 ∷ 17 ∷ []) $ free1 ! $ move ! (14 ∷ 15 ∷ []) $ free1 ! $ move ! (12 ∷ 13 ∷ []) $ free1 ! $ move ! (10 ∷ 11 ∷ []) $ free1 ! $ move ! (8 ∷ 9 ∷ []) $ free1 ! $ free0 ! $
+          returns ! (look ! 18 refl) $
+          forget ! 8 refl $ forget ! 10 refl $ forget ! 12 refl $ forget ! 14 refl $ forget ! 16 refl $ forget ! 18 refl $
+          move ! (18 ∷ 19 ∷ []) $ free1 ! $ move ! (16 ∷ 17 ∷ []) $ free1 ! $ move ! (14 ∷ 15 ∷ []) $ free1 ! $
+          move ! (12 ∷ 13 ∷ []) $ free1 ! $ move ! (10 ∷ 11 ∷ []) $ free1 ! $ move ! (8 ∷ 9 ∷ []) $ free1 ! $ free0 ! $
           keep ! (0 ∷ 1 ∷ 2 ∷ 5 ∷ 6 ∷ 4 ∷ []) $ by ! (exits m r u found moved)))))))))))))))))
 
 -- ------------------------------------------------------------------ from the walk to the contract
@@ -180,13 +185,16 @@ module _ {M : Type 1} (𝓤 : URA M) (H : Heap 𝓤) (A : Atoms 𝓤) (W : Given
   walks : (C : Calls 𝓤 H) (Λ : Loops 𝓤 H) → FmC 𝓤 H (W .laws) C → Triple 𝓤 (C #read-number) (ReadNumber 𝓤 H A mem run) → Triple 𝓤 (C #past) (Past 𝓤 H A mem run)
       → Walks 𝓤 H A rs.ended stayed (WpFn 𝓤 H C Λ code.function) (rs.clauses 𝓤 H A mem run)
   walks C Λ fm known known2 =
-      walked 𝓤 H A rs.ended stayed (rs.clauses 𝓤 H A mem run) (WpFn 𝓤 H C Λ code.function) (λ κs. (ptr-vals, (slice-vals, tt))) (λ κs. (mut-tells (named 0) (κs .0) T.the-row, (shr-slice-tells (named 1) (κs .1 .0) u8, tt)))
-      (λ κs qs bounds a _ are. via 𝓤 _ (fst∗ 𝓤 _ (emp 𝓤)) (walk 𝓤 H A mem run W (κs .0) (κs .1 .0) (qs .0) (qs .1 .0) bounds (a .0 .ptr .0) (a .0 .ptr .1) (a .0 .name) (a .0 .now) (a .1 .0) C Λ fm known known2 (are .1 .0)))
+      walked 𝓤 H A rs.ended stayed (rs.clauses 𝓤 H A mem run) (WpFn 𝓤 H C Λ code.function) (λ κs. (ptr-vals, (slice-vals, tt)))
+      (λ κs. (mut-tells (named 0) (κs .0) T.the-row, (shr-slice-tells (named 1) (κs .1 .0) u8, tt)))
+      (λ κs qs bounds a _ are. via 𝓤 _ (fst∗ 𝓤 _ (emp 𝓤))
+      (walk 𝓤 H A mem run W (κs .0) (κs .1 .0) (qs .0) (qs .1 .0) bounds (a .0 .ptr .0) (a .0 .ptr .1) (a .0 .name) (a .0 .now) (a .1 .0) C Λ fm known known2 (are .1 .0)))
 
   meets : (𝓣 : Tables 𝓤 H) → Triple 𝓤 (𝓣 .C #read-number) (ReadNumber 𝓤 H A mem run) → Triple 𝓤 (𝓣 .C #past) (Past 𝓤 H A mem run)
       → Meets 𝓤 H A rs.signature (WpFn 𝓤 H (𝓣 .C) (𝓣 .Λ) code.function) (rs.spec 𝓤 H A mem run)
   meets 𝓣 known known2 =
-      walk-meets 𝓤 H A rs.ended stayed W (goes-ref 𝓤 H A W 2 0 tt (plain (λ _. T.the-row)), (goes-none-slice 𝓤 H A W 2 (1 ∷ []) tt (plain (λ _. u8)) yes, tt)) (rs.clauses 𝓤 H A mem run)
+      walk-meets 𝓤 H A rs.ended stayed W
+      (goes-ref 𝓤 H A W 2 0 tt (plain (λ _. T.the-row)), (goes-none-slice 𝓤 H A W 2 (1 ∷ []) tt (plain (λ _. u8)) yes, tt)) (rs.clauses 𝓤 H A mem run)
       (WpFn 𝓤 H (𝓣 .C) (𝓣 .Λ) code.function) (WpFn-mono 𝓤 H (W .laws) 𝓣 code.function) (walks (𝓣 .C) (𝓣 .Λ) (fmOf 𝓤 H (W .laws) 𝓣) known known2)
 
 pub read-sign-spec : {M : Type 1} → stated.statement M
