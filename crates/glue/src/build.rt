@@ -8,8 +8,8 @@ use crate::pool::exchange;
 use crate::pool::push_edge;
 use crate::pool::push_empty;
 use crate::pool::push_node;
+use word::cursor::sign_at;
 use word::number::Read;
-use word::number::read_number;
 use word::sign::CHILD;
 use word::sign::COMPOSITION;
 use word::sign::EMPTY;
@@ -78,7 +78,7 @@ pub fn build(
     let mut pending: usize = 0;
     let mut at: usize = 0;
     while at < word.len() {
-        let Read::Number { value, next } = read_number(word, at) else {
+        let Read::Number { value, next } = sign_at(word, at) else {
             // no number of an accepted word is broken
             return Built {
                 rows: 0,

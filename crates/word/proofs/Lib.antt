@@ -9,3 +9,4 @@ mod Outcomes
 mod Reading
 mod Counting
 mod Checking
+mod Lending

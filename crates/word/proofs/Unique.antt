@@ -1,11 +1,12 @@
 -- "That no second answer fits is itself a proved statement": of the reader and of the check.
-use mathlib.Core.Path.{_≡_, refl, sym, _∙_}
+use mathlib.Core.Path.{_≡_, refl, sym, ap, _∙_}
 use mathlib.Core.List.{List}
 use Prim.Native.Nat.{ℕ, _-_}
 use native.Mathlib.Omega.{arith}
 use Rattle.meaning.specs.Number.{got, readNumber}
 use Rattle.meaning.specs.Word.{readWord}
 use Rattle.word.specs.Answer.{gotOf, checkedOf, verdict}
+use Rattle.word.specs.Cursor.{placePast}
 use Rattle.word.specs.declared.number.Read.{Read}
 use Rattle.word.specs.declared.number.Read.the-variants.{Number, Broken}
 use Rattle.word.specs.declared.whole.Checked.{Checked}
@@ -23,6 +24,10 @@ read-unique w at (Number v next) (Number v′ next′) p q =
 read-unique w at (Number v next) Broken p q = absurd (let z : _≡_ {A = ℕ} 0 1 = cc in omega arith)
 read-unique w at Broken (Number v next) p q = absurd (let z : _≡_ {A = ℕ} 0 1 = cc in omega arith)
 read-unique w at Broken Broken p q = refl
+
+-- and a cursor is left at one place
+pub moved-unique : (w : List ℕ) (at : ℕ) (r r′ : Read) (m m′ : ℕ) → (gotOf at r ≡ readNumber w at) × (m ≡ placePast at r) → (gotOf at r′ ≡ readNumber w at) × (m′ ≡ placePast at r′) → (r ≡ r′) × (m ≡ m′)
+moved-unique w at r r′ m m′ (p, e) (q, d) = let same = read-unique w at r r′ p q in (same, e ∙ ap (placePast at) same ∙ sym d)
 
 pub checked-unique : (w : List ℕ) (r r′ : Checked) → checkedOf r ≡ verdict (readWord w) → checkedOf r′ ≡ verdict (readWord w) → r ≡ r′
 checked-unique w r r′ p q = go r r′ (p ∙ sym q)

@@ -1,6 +1,6 @@
 // The check of a word: refusals 1 to 6, "signs from left to right, the first bad sign deciding". Only the numbers of pending operands and of steps are kept.
+use crate::cursor::sign_at;
 use crate::number::Read;
-use crate::number::read_number;
 use crate::refusal::BROKEN_NUMBER;
 use crate::refusal::LACKS_OPERANDS;
 use crate::refusal::LONGEST_WORD;
@@ -91,7 +91,7 @@ pub fn check_word(word: &[u8]) -> Checked
     let mut counts = count(0, 0);
     let mut at: usize = 0;
     while at < word.len() {
-        let Read::Number { value, next } = read_number(word, at) else {
+        let Read::Number { value, next } = sign_at(word, at) else {
             return Checked::Refused {
                 number: BROKEN_NUMBER,
                 place: at,

@@ -5,7 +5,7 @@ use native.Mathlib.Omega.{arith}
 use lib.ListN.{length, length-set}
 use borrow.Author.Needs.{needs}
 use Rattle.word.proofs.Numbers.{number-at}
-use Rattle.word.proofs.number.read_number.Reads as read-number-reads
+use Rattle.word.proofs.cursor.sign_at.Reads as sign-at-reads
 use Rattle.glue.specs.Pool.{pool}
 use Rattle.glue.proofs.Reading.{Reading, SameLengths, reading-start, reading-broken, reading-passes, reading-next, reading-end}
 use Rattle.glue.proofs.build.build.Statement.{statement}
@@ -27,8 +27,8 @@ slice-write-first c = search needs
 loop-holds : tie.Need-loop-holds Inv-loop μ-loop
 loop-holds c = (record { parents = refl; labels = refl; firsts = refl; marksS = refl; marksD = refl }, reading-start _ _ _ (c .before .before .before .before .before .before .args .first .now) _ _ (c .before .before .before .before .before .before .pre .0) (c .before .before .before .before .before .before .pre .1))
 
-read-number-requires : tie.Need-read-number-requires Inv-loop μ-loop
-read-number-requires c κs = search needs
+sign-at-requires : tie.Need-sign-at-requires Inv-loop μ-loop
+sign-at-requires c κs = search needs
 
 enum-known-value : tie.Need-enum-known-value Inv-loop μ-loop
 enum-known-value c = search needs
@@ -52,18 +52,18 @@ same-length-5 : tie.Need-same-length-5 Inv-loop μ-loop
 same-length-5 c = search needs
 
 returns : tie.Need-returns Inv-loop μ-loop
-returns c = reading-broken _ _ _ _ (c .before .before .before .before .loop .inv .1) (c .before .before .before .loop-test .taken) (c .before .before .read-number .ensures) (c .enum-told .given .1)
+returns c = reading-broken _ _ _ _ (c .before .before .before .before .loop .inv .1) (c .before .before .before .loop-test .taken) (c .before .before .sign-at .ensures) (c .enum-told .given .1)
 
 apply-sign-requires : tie.Need-apply-sign-requires Inv-loop μ-loop
-apply-sign-requires c κs = reading-passes _ _ _ _ (c .before .before .before .before .before .before .before .before .before .before .loop .inv .1) (c .before .before .before .before .before .before .before .before .before .loop-test .taken) (number-at _ _ (c .before .before .before .before .before .before .before .before .read-number .ensures) (c .before .before .before .before .before .before .value .given .1))
+apply-sign-requires c κs = reading-passes _ _ _ _ (c .before .before .before .before .before .before .before .before .before .before .loop .inv .1) (c .before .before .before .before .before .before .before .before .before .loop-test .taken) (number-at _ _ (c .before .before .before .before .before .before .before .before .sign-at .ensures) (c .before .before .before .before .before .before .value .given .1))
 
 loop-less : tie.Need-loop-less Inv-loop μ-loop
-loop-less c = omega (arith, number-at _ _ (c .before .before .before .before .before .before .before .before .before .before .before .before .before .before .before .before .before .before .before .read-number .ensures) (c .before .before .before .before .before .before .before .before .before .before .before .before .before .before .before .before .before .value .given .1) .moved, c .before .before .before .before .before .before .before .before .before .before .before .before .before .before .before .before .before .before .before .before .loop-test .taken)
+loop-less c = omega (arith, number-at _ _ (c .before .before .before .before .before .before .before .before .before .before .before .before .before .before .before .before .before .before .before .sign-at .ensures) (c .before .before .before .before .before .before .before .before .before .before .before .before .before .before .before .before .before .value .given .1) .moved, c .before .before .before .before .before .before .before .before .before .before .before .before .before .before .before .before .before .before .before .before .loop-test .taken)
 
 loop-again : tie.Need-loop-again Inv-loop μ-loop
 loop-again c = let l = c .before .before .before .before .before .before .before .before .before .before .before .before .before .before .before .before .before .before .before .before .before .loop .inv .0 in (
   record { parents = c .before .before .before .before .before .before .before .before .before .before .apply-sign .kept .0 ∙ l .parents; labels = c .before .before .before .before .before .before .before .before .before .before .apply-sign .kept .1 .0 ∙ l .labels; firsts = c .before .before .before .before .before .before .before .before .before .before .apply-sign .kept .1 .1 .0 ∙ l .firsts; marksS = c .before .before .before .before .before .before .before .before .before .before .apply-sign .kept .1 .1 .1 .0 ∙ l .marksS; marksD = c .before .before .before .before .before .before .before .before .before .before .apply-sign .kept .1 .1 .1 .1 .0 ∙ l .marksD },
-  reading-next _ _ _ _ (c .before .before .before .before .before .before .before .before .before .before .before .before .before .before .before .before .before .before .before .before .before .loop .inv .1) (c .before .before .before .before .before .before .before .before .before .before .before .before .before .before .before .before .before .before .before .before .loop-test .taken) (number-at _ _ (c .before .before .before .before .before .before .before .before .before .before .before .before .before .before .before .before .before .before .before .read-number .ensures) (c .before .before .before .before .before .before .before .before .before .before .before .before .before .before .before .before .before .value .given .1)) _ _ (c .before .before .before .before .before .before .before .before .before .before .apply-sign .ensures),
+  reading-next _ _ _ _ (c .before .before .before .before .before .before .before .before .before .before .before .before .before .before .before .before .before .before .before .before .before .loop .inv .1) (c .before .before .before .before .before .before .before .before .before .before .before .before .before .before .before .before .before .before .before .before .loop-test .taken) (number-at _ _ (c .before .before .before .before .before .before .before .before .before .before .before .before .before .before .before .before .before .before .before .sign-at .ensures) (c .before .before .before .before .before .before .before .before .before .before .before .before .before .before .before .before .before .value .given .1)) _ _ (c .before .before .before .before .before .before .before .before .before .before .apply-sign .ensures),
 )
 
 entry-requires : tie.Need-entry-requires Inv-loop μ-loop
@@ -101,7 +101,7 @@ build-spec =
     μ-loop
     slice-write-first
     loop-holds
-    read-number-requires
+    sign-at-requires
     enum-known-value
     enum-told
     same-length

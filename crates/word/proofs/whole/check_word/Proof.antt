@@ -11,7 +11,7 @@ use Rattle.word.proofs.whole.check_word.Reads as reads
 use Rattle.word.proofs.whole.check_word.Lts as lts
 use Rattle.word.proofs.whole.count.Reads as count-reads
 use Rattle.word.proofs.whole.take_sign.Reads as take-sign-reads
-use Rattle.word.proofs.number.read_number.Reads as read-number-reads
+use Rattle.word.proofs.cursor.sign_at.Reads as sign-at-reads
 
 abbrev Inv-loop : tie.InvT-loop
 Inv-loop word counts₀ at₀ counts at = Checking word counts at
@@ -29,8 +29,8 @@ count-requires c κs = search needs
 loop-holds : tie.Need-loop-holds Inv-loop μ-loop
 loop-holds c = rw (c .count .ensures) (checking-start _ (c .before .if1 .left))
 
-read-number-requires : tie.Need-read-number-requires Inv-loop μ-loop
-read-number-requires c κs = search needs
+sign-at-requires : tie.Need-sign-at-requires Inv-loop μ-loop
+sign-at-requires c κs = search needs
 
 enum-known-value : tie.Need-enum-known-value Inv-loop μ-loop
 enum-known-value c = search needs
@@ -40,7 +40,7 @@ enum-told c = search needs
 
 -- refusal 2
 returns-2 : tie.Need-returns-2 Inv-loop μ-loop
-returns-2 c = checking-broken _ _ _ (c .before .before .before .before .loop .inv) (c .before .before .before .loop-test .taken) (c .before .before .read-number .ensures) (c .enum-told .given .1)
+returns-2 c = checking-broken _ _ _ (c .before .before .before .before .loop .inv) (c .before .before .before .loop-test .taken) (c .before .before .sign-at .ensures) (c .enum-told .given .1)
 
 take-sign-requires : tie.Need-take-sign-requires Inv-loop μ-loop
 take-sign-requires c κs = search needs
@@ -53,13 +53,13 @@ enum-known-number c = search needs
 
 -- refusals 3, 4 and 5
 returns-3 : tie.Need-returns-3 Inv-loop μ-loop
-returns-3 c = checking-stop _ _ _ (c .before .before .before .before .before .before .before .before .before .loop .inv) (c .before .before .before .before .before .before .before .before .loop-test .taken) (c .before .before .before .before .before .before .before .read-number .ensures) (c .before .before .before .before .before .value .given .1) (c .before .before .before .take-sign .ensures) (c .before .number .given .1)
+returns-3 c = checking-stop _ _ _ (c .before .before .before .before .before .before .before .before .before .loop .inv) (c .before .before .before .before .before .before .before .before .loop-test .taken) (c .before .before .before .before .before .before .before .sign-at .ensures) (c .before .before .before .before .before .value .given .1) (c .before .before .before .take-sign .ensures) (c .before .number .given .1)
 
 loop-less : tie.Need-loop-less Inv-loop μ-loop
-loop-less c = omega (arith, number-at _ _ (c .before .before .before .before .before .before .before .read-number .ensures) (c .before .before .before .before .before .value .given .1) .moved, c .before .before .before .before .before .before .before .before .loop-test .taken)
+loop-less c = omega (arith, number-at _ _ (c .before .before .before .before .before .before .before .sign-at .ensures) (c .before .before .before .before .before .value .given .1) .moved, c .before .before .before .before .before .before .before .before .loop-test .taken)
 
 loop-again : tie.Need-loop-again Inv-loop μ-loop
-loop-again c = checking-next _ _ _ (c .before .before .before .before .before .before .before .before .before .loop .inv) (c .before .before .before .before .before .before .before .before .loop-test .taken) (c .before .before .before .before .before .before .before .read-number .ensures) (c .before .before .before .before .before .value .given .1) (c .before .before .before .take-sign .ensures) (c .before .more .given .1)
+loop-again c = checking-next _ _ _ (c .before .before .before .before .before .before .before .before .before .loop .inv) (c .before .before .before .before .before .before .before .before .loop-test .taken) (c .before .before .before .before .before .before .before .sign-at .ensures) (c .before .before .before .before .before .value .given .1) (c .before .before .before .take-sign .ensures) (c .before .more .given .1)
 
 -- accepted
 returns-4 : tie.Need-returns-4 Inv-loop μ-loop
@@ -78,7 +78,7 @@ check-word-spec =
     returns
     count-requires
     loop-holds
-    read-number-requires
+    sign-at-requires
     enum-known-value
     enum-told
     returns-2

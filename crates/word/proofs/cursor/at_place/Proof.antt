@@ -1,0 +1,23 @@
+-- The answer differs from what was read in its place only.
+use borrow.Author.Needs.{needs}
+use Rattle.word.proofs.cursor.at_place.Statement.{statement}
+use Rattle.word.proofs.cursor.at_place.Tie as tie
+use Rattle.word.proofs.cursor.at_place.Reads as reads
+use Rattle.word.proofs.cursor.at_place.Lts as lts
+
+enum-known-read : tie.Need-enum-known-read
+enum-known-read c = search needs
+
+enum-told : tie.Need-enum-told
+enum-told c = search needs
+
+-- a number
+returns : tie.Need-returns
+returns c = rw (c .before .read .given .1)
+
+-- none that can be read
+returns-2 : tie.Need-returns-2
+returns-2 c = search needs
+
+pub at-place-spec : {M : Type 1} → statement M
+at-place-spec = tie.close (tie.spec enum-known-read enum-told returns returns-2)
