@@ -12,7 +12,7 @@ use Rattle.meaning.specs.TreeQuery.{lab, Row, node, Table, at, Live}
 use Rattle.meaning.specs.Gluing.{meet, orElse}
 use Rattle.rows.specs.Rows.{labOf, noRow}
 use Rattle.theory.proofs.Look.{pick-yes, pick-no, live-lt}
-use Rattle.glue.specs.Rows.{parentOf, rowAt, listed, table, ifRows}
+use Rattle.glue.specs.Rows.{parentOf, rowAt, listed, table, Relinked, ifRows}
 
 -- ------------------------------------------------------------------ parents
 pub parent-none : (p : ℕ) → p ≡ noRow → parentOf p ≡ none
@@ -22,6 +22,12 @@ parent-none p e = rw (eq-eqb p noRow e)
 pub parent-some : (p : ℕ) → p ≢ noRow → parentOf p ≡ some p
 unfolding parentOf
 parent-some p ne = rw (ne-eqb p noRow ne)
+
+pub relinked-none : (f : ℕ → ℕ) (p : ℕ) → p ≡ noRow → Relinked f p noRow
+relinked-none f p e = rw (parent-none p e) (parent-none noRow refl)
+
+pub relinked-some : (f : ℕ → ℕ) (p j : ℕ) → p ≢ noRow → j ≢ noRow → j ≡ f p → Relinked f p j
+relinked-some f p j ne nj e = rw (parent-some p ne) (parent-some j nj ∙ ap some e)
 
 pub orElse-none : (u v : ℕ) → u ≡ noRow → parentOf v ≡ orElse (parentOf u) (parentOf v)
 orElse-none u v e = rw (parent-none u e)

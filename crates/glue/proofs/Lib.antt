@@ -1,5 +1,6 @@
 -- Laws over plain lists and numbers; the folders beside prove the functions with them. What other crates cite is `pub mod`.
 pub mod Codes
+mod Sweeping
 mod Merged
 mod Climb
 mod Shift

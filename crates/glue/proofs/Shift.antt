@@ -1,20 +1,20 @@
--- Two tables side by side: the links of the second grow by the number of rows of the first. `Shift` says what the loop has done below i.
-use mathlib.Core.Path.{_≡_, refl, sym, ap, _∙_}
+-- Two tables side by side: the links of the second grow by the number of rows of the first.
+use mathlib.Core.Path.{_≡_, sym, ap, _∙_}
 use mathlib.Core.Logic.{_≢_}
 use mathlib.Core.Option.{some}
 use mathlib.Core.List.{List}
 use Prim.Native.Nat.{ℕ, _+_, _-_, _≤_, _<_}
-use native.Mathlib.Decide.{ℕ-discrete}
 use native.Mathlib.Omega.{arith}
-use lib.ListN.{length, getD, set, drop, length-set}
-use lib.Seq.{getD-set-same, getD-set-other, getD-drop}
+use lib.ListN.{length, getD, drop}
+use lib.Seq.{getD-drop}
 use Rattle.meaning.specs.Basics.{mapped}
 use Rattle.meaning.specs.TreeQuery.{node, Table, at, Tree}
 use Rattle.meaning.specs.Gluing.{relink, shift, join}
 use Rattle.rows.specs.Rows.{labOf, noRow}
 use Rattle.theory.proofs.Join.{length-join, at-left, at-right, Side, left, right, sideOf}
-use Rattle.glue.specs.Rows.{parentOf, rowAt, table}
-use Rattle.glue.proofs.Codes.{parent-none, parent-some, length-table, at-table, table-is, live-below, row-table}
+use Rattle.glue.specs.Rows.{parentOf, rowAt, table, Relinked, Swept}
+use Rattle.glue.proofs.Codes.{parent-some, length-table, at-table, table-is, live-below, row-table}
+use Rattle.glue.proofs.Sweeping.{here-done}
 
 -- ------------------------------------------------------------------ the links of a tree
 module _ (n : ℕ) (P L : List ℕ) (tree : Tree (table n P L)) where
@@ -25,47 +25,19 @@ module _ (n : ℕ) (P L : List ℕ) (tree : Tree (table n P L)) where
   links-small le i p lt e = let z = links-in i p lt e in omega arith
 
 -- ------------------------------------------------------------------ one link
-pub shifted-none : (a p : ℕ) → p ≡ noRow → parentOf noRow ≡ mapped (λ q. a + q) (parentOf p)
-shifted-none a p e = rw (parent-none p e) (parent-none noRow refl)
-
 pub shifted-small : (p : ℕ) → p ≢ noRow → ((q : ℕ) → parentOf p ≡ some q → q < 512) → p < 512
 shifted-small p ne f = f p (parent-some p ne)
 
-pub shifted-some : (a p j : ℕ) → p ≢ noRow → p < 512 → a ≤ 512 → j ≡ a + p → parentOf j ≡ mapped (λ q. a + q) (parentOf p)
-shifted-some a p j ne lp la e = rw (parent-some p ne) (parent-some j (λ q. omega arith) ∙ ap some e)
-
 -- ------------------------------------------------------------------ all links of the second table
-pub record Shift (P₀ : List ℕ) (na i : ℕ) (P : List ℕ) : Type 0 where
-  pub lenP : length P ≡ length P₀
-  pub low : (k : ℕ) → k < na → getD P k 0 ≡ getD P₀ k 0
-  pub done : (k : ℕ) → na ≤ k → k < i → parentOf (getD P k 0) ≡ mapped (λ q. na + q) (parentOf (getD P₀ k 0))
-  pub rest : (k : ℕ) → i ≤ k → getD P k 0 ≡ getD P₀ k 0
-
-pub shift-start : (P : List ℕ) (na : ℕ) → Shift P na na P
-shift-start P na = record { lenP = refl; low = λ k lt. refl; done = λ k a b. absurd (omega arith); rest = λ k a. refl }
-
-pub shift-small : (P₀ : List ℕ) (na nb i : ℕ) (P : List ℕ) → Shift P₀ na i P → na ≤ i → i < na + nb
+pub shift-small : (P₀ : List ℕ) (na nb i : ℕ) (P : List ℕ) → Swept (Relinked (λ q. na + q)) 0 na i P₀ P → na ≤ i → i < na + nb
     → ((j p : ℕ) → j < nb → parentOf (getD (drop na P₀) j 0) ≡ some p → p < 512) → (q : ℕ) → parentOf (getD P i 0) ≡ some q → q < 512
 shift-small P₀ na nb i P h ni lt f q e =
     f (i - na) q (omega arith)
     (ap parentOf (getD-drop na P₀ (i - na) 0 ∙ ap (λ z. getD P₀ z 0) (let z : na + (i - na) ≡ i = omega arith in z) ∙ sym (h .rest i (omega arith))) ∙ e)
 
-pub shift-more : (P₀ : List ℕ) (na i : ℕ) (P : List ℕ) (p : ℕ) → Shift P₀ na i P → na ≤ i → i < length P
-    → parentOf p ≡ mapped (λ q. na + q) (parentOf (getD P i 0)) → Shift P₀ na (i + 1) (set P i p)
-shift-more P₀ na i P p h ni lp e = record {
-  lenP = length-set P i p ∙ h .lenP;
-  low = λ k lt. getD-set-other P i k p 0 (λ q. omega arith) ∙ h .low k lt;
-  done = λ k a b. go k (ℕ-discrete k i) a b;
-  rest = λ k a. getD-set-other P i k p 0 (λ q. omega arith) ∙ h .rest k (omega arith);
-}
-  where
-    go : (k : ℕ) → Dec (k ≡ i) → na ≤ k → k < i + 1 → parentOf (getD (set P i p) k 0) ≡ mapped (λ q. na + q) (parentOf (getD P₀ k 0))
-    go k (yes q) a b = rw (q, getD-set-same P i p 0 lp) (e ∙ ap (λ z. mapped (λ q′. na + q′) (parentOf z)) (h .rest i (omega arith)))
-    go k (no nq) a b = rw (getD-set-other P i k p 0 nq) (h .done k a (omega arith))
-
-pub shift-end : (P₀ L : List ℕ) (na nb i : ℕ) (P : List ℕ) → Shift P₀ na i P → i ≡ na + nb
+pub shift-end : (P₀ L : List ℕ) (na nb : ℕ) (P : List ℕ) → Swept (Relinked (λ q. na + q)) 0 na (na + nb) P₀ P
     → table (na + nb) P L ≡ join (table na P₀ L) (table nb (drop na P₀) (drop na L))
-shift-end P₀ L na nb i P h ei = table-is (na + nb) P L (join A B) len (λ k lt. go k lt (sideOf A k))
+shift-end P₀ L na nb P h = table-is (na + nb) P L (join A B) len (λ k lt. go k lt (sideOf A k))
   where
     A : Table
     A = table na P₀ L
@@ -82,7 +54,7 @@ shift-end P₀ L na nb i P h ei = table-is (na + nb) P L (join A B) len (λ k lt
     row : (j : ℕ) → j < nb → relink (λ q. na + q) (rowAt (drop na P₀) (drop na L) j) ≡ rowAt P L (na + j)
     row j lt =
         rw (getD-drop na P₀ j 0, getD-drop na L j 0)
-        (ap (λ z. node z (labOf (getD L (na + j) 0))) (sym (h .done (na + j) (omega arith) (omega arith))))
+        (ap (λ z. node z (labOf (getD L (na + j) 0))) (sym (here-done (Relinked (λ q. na + q)) na (na + nb) P₀ P h (na + j) (omega arith) (omega arith))))
 
     go : (k : ℕ) → k < na + nb → Side A k → at (join A B) k ≡ some (rowAt P L k)
     go k lt (left l) =

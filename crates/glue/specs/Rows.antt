@@ -1,11 +1,13 @@
 -- The rows of a tree query as two lists of numbers: parents, with noRow at a top, and label codes.
 -- "No rows" stands for empty, in every answer of this crate.
+use mathlib.Core.Path.{_≡_}
 use mathlib.Core.Bool.{cond}
 use mathlib.Core.Option.{Option, none, some}
 use mathlib.Core.List.{List, [], _∷_}
-use Prim.Native.Nat.{ℕ, zero, suc, _-_, _≤_}
+use Prim.Native.Nat.{ℕ, zero, suc, _+_, _-_, _≤_, _<_}
 use lib.ListN.{length, getD, drop}
 use lib.Dec.{eqb}
+use Rattle.meaning.specs.Basics.{mapped}
 use Rattle.meaning.specs.TreeQuery.{Lab, Row, node, Table, Query}
 use Rattle.meaning.specs.Gluing.{Glued}
 use Rattle.rows.specs.Rows.{labOf, noRow}
@@ -28,6 +30,17 @@ listed (suc n) f = f 0 ∷ listed n (λ i. f (suc i))
 -- the first n rows
 unfoldable pub table : ℕ → List ℕ → List ℕ → Table
 table n P L = listed n (rowAt P L)
+
+-- r is the link p, each row i of which is now f i
+abbrev pub Relinked : (ℕ → ℕ) → ℕ → ℕ → Type 0
+Relinked f p r = parentOf r ≡ mapped f (parentOf p)
+
+-- each entry from a up to i comes by R from the old one `gap` further on, and all others are as they were
+pub record Swept (R : ℕ → ℕ → Type 0) (gap a i : ℕ) (old new : List ℕ) : Type 0 where
+  pub same : length new ≡ length old
+  pub low : (k : ℕ) → k < a → getD new k 0 ≡ getD old k 0
+  pub done : (k : ℕ) → a ≤ k → k < i → R (getD old (k + gap) 0) (getD new k 0)
+  pub rest : (k : ℕ) → i ≤ k → getD new k 0 ≡ getD old k 0
 
 -- the lists have room for n rows, and n is no more than the pool has
 pub record Room (n : ℕ) (P L : List ℕ) : Type 0 where

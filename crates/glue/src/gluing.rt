@@ -10,11 +10,10 @@ ghost use mathlib.Core.Path.{_≡_};
 ghost use mathlib.Core.Option.{some};
 ghost use Prim.Native.Nat.{ℕ, _+_, _≤_, _<_};
 ghost use lib.ListN.{getD, drop};
-ghost use Rattle.meaning.specs.Basics.{mapped};
 ghost use Rattle.meaning.specs.TreeQuery.{Tree, TreeQuery};
 ghost use Rattle.meaning.specs.Gluing.{glue, join, depth, within, placed, composed, intersected};
 ghost use Rattle.theory.proofs.Apart.{Safe};
-ghost use Rattle.glue.specs.Rows.{parentOf, table, Room, marked, joinedOf, query, queryFrom, builtOf};
+ghost use Rattle.glue.specs.Rows.{parentOf, table, Relinked, Room, marked, joinedOf, query, queryFrom, builtOf};
 
 // The rows left after a gluing and where three nodes went; no rows where two labels clashed.
 pub struct Joined {
@@ -85,15 +84,14 @@ fn glue_rows(
 }
 
 // A link that counts from the first row of the other table.
-fn shifted(na: usize, p: u16) -> u16
+fn shifted(na: u16, p: u16) -> u16
     requires { ⌜ (na ≤ 512) × ((q : ℕ) → parentOf p ≡ some q → q < 512) ⌝ }
-    ensures { λ r. ⌜ parentOf r ≡ mapped (λ q. na + q) (parentOf p) ⌝ }
+    ensures { λ r. ⌜ Relinked (λ q. na + q) p r ⌝ }
 {
     if p == NO_ROW {
         return NO_ROW;
     }
-    let j = na + wide(p);
-    j as u16
+    na + p
 }
 
 // Two tables side by side become one: the links of the nb rows behind the first na grow by na.
@@ -103,9 +101,10 @@ fn shift_rows(parent: &mut [u16], label: &[u32], na: usize, nb: usize)
     ensures { λ _. ⌜ table (na + nb) (now (parent .exit)) (now (label .entry)) ≡ join (table na (now (parent .entry)) (now (label .entry))) (table nb (drop na (now (parent .entry))) (drop na (now (label .entry)))) ⌝ }
 {
     let end = na + nb;
+    let k = na as u16;
     let mut i = na;
     while i < end {
-        let p = shifted(na, parent[i]);
+        let p = shifted(k, parent[i]);
         parent[i] = p;
         i += 1;
     }

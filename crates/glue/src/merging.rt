@@ -3,11 +3,9 @@ ghost use mathlib.Core.Path.{_≡_};
 ghost use mathlib.Core.Option.{some};
 ghost use Prim.Native.Nat.{ℕ, _+_, _-_, _≤_, _<_};
 ghost use lib.ListN.{length, getD};
-ghost use Rattle.meaning.specs.Basics.{mapped};
 ghost use Rattle.meaning.specs.Gluing.{meet, moved, merged, orElse};
 ghost use Rattle.rows.specs.Rows.{labOf};
-ghost use Rattle.theory.proofs.Merge.{back};
-ghost use Rattle.glue.specs.Rows.{parentOf, table, metOf};
+ghost use Rattle.glue.specs.Rows.{parentOf, table, metOf, Relinked, Swept};
 
 // The parent of a top.
 pub const NO_ROW: u16 = 65535;
@@ -41,27 +39,24 @@ pub fn renumber(x: usize, y: usize, i: usize) -> usize
     i
 }
 
-// The number that row i had before.
-fn number_before(y: usize, i: usize) -> usize
-    requires { ⌜ i < 512 ⌝ }
-    ensures { λ r. ⌜ (r ≡ back y i) × (r ≤ i + 1) ⌝ }
+// A link, renumbered. All of it in u16, and each way out a choice between numbers: a loop of it then takes eight links at a time.
+fn relinked(x: u16, y: u16, p: u16) -> u16
+    requires { ⌜ (x < 65535) × (y < 65535) ⌝ }
+    ensures { λ r. ⌜ Relinked (moved x y) p r ⌝ }
 {
-    if i < y {
-        return i;
+    if p == y {
+        if y < x {
+            return x - 1;
+        }
+        return x;
     }
-    i + 1
-}
-
-// A link, renumbered.
-fn relinked(x: usize, y: usize, p: u16) -> u16
-    requires { ⌜ x < 65535 ⌝ }
-    ensures { λ r. ⌜ parentOf r ≡ mapped (moved x y) (parentOf p) ⌝ }
-{
     if p == NO_ROW {
         return NO_ROW;
     }
-    let j = renumber(x, y, wide(p));
-    j as u16
+    if y < p {
+        return p - 1;
+    }
+    p
 }
 
 // "Wildcard glued to a label is that label"; two different labels clash.
@@ -90,6 +85,31 @@ pub fn or_else(u: u16, v: u16) -> u16
     u
 }
 
+// The links of the rows from `from` to `end` become those of the rows `gap` further on, renumbered.
+fn relink_rows(parent: &mut [u16], from: usize, end: usize, gap: usize, x: u16, y: u16)
+    requires { ⌜ (from ≤ end) × (gap ≤ 1) × (end + gap ≤ length (now parent)) × (x < 65535) × (y < 65535) ⌝ }
+    ensures { λ _. ⌜ Swept (Relinked (moved x y)) gap from end (now (parent .entry)) (now (parent .exit)) ⌝ }
+{
+    let mut i = from;
+    while i < end {
+        let p = relinked(x, y, parent[i + gap]);
+        parent[i] = p;
+        i += 1;
+    }
+}
+
+// The labels of the rows from y to `last` become those of the next rows.
+fn pull_labels(label: &mut [u32], y: usize, last: usize)
+    requires { ⌜ (y ≤ last) × (last < length (now label)) ⌝ }
+    ensures { λ _. ⌜ Swept _≡_ 1 y last (now (label .entry)) (now (label .exit)) ⌝ }
+{
+    let mut i = y;
+    while i < last {
+        label[i] = label[i + 1];
+        i += 1;
+    }
+}
+
 // Row y is taken out of the n rows; x stands for it with the parent u and the label code l. The rows below `from` link to rows below `from`, and y is
 // none of them: they stay as they are.
 pub fn merge_rows(
@@ -107,15 +127,12 @@ pub fn merge_rows(
     ensures { λ _. ⌜ table (n - 1) (now (parent .exit)) (now (label .exit)) ≡ merged (table n (now (parent .entry)) (now (label .entry))) x y (parentOf u) (labOf l) ⌝ }
 {
     let last = n - 1;
-    let mut i = from;
-    while i < last {
-        let j = number_before(y, i);
-        let p = relinked(x, y, parent[j]);
-        parent[i] = p;
-        label[i] = label[j];
-        i += 1;
-    }
+    let a = x as u16;
+    let b = y as u16;
+    relink_rows(parent, from, y, 0, a, b);
+    relink_rows(parent, y, last, 1, a, b);
+    pull_labels(label, y, last);
     let z = renumber(x, y, x);
-    parent[z] = relinked(x, y, u);
+    parent[z] = relinked(a, b, u);
     label[z] = l;
 }

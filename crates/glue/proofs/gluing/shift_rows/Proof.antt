@@ -1,9 +1,11 @@
--- The loop shifts the links of the second table: `Shift`.
+-- The loop shifts the links of the second table: `Swept`.
 use mathlib.Core.Path.{_≡_, refl}
 use Prim.Native.Nat.{_≤_, _-_, _+_}
 use native.Mathlib.Omega.{arith}
 use borrow.Author.Needs.{needs}
-use Rattle.glue.proofs.Shift.{Shift, shift-start, shift-small, shift-more, shift-end}
+use Rattle.glue.specs.Rows.{Relinked, Swept}
+use Rattle.glue.proofs.Sweeping.{swept-start, swept-end, here-more}
+use Rattle.glue.proofs.Shift.{shift-small, shift-end}
 use Rattle.glue.proofs.gluing.shift_rows.Statement.{statement}
 use Rattle.glue.proofs.gluing.shift_rows.Tie as tie
 use Rattle.glue.proofs.gluing.shift_rows.Reads as reads
@@ -11,16 +13,19 @@ use Rattle.glue.proofs.gluing.shift_rows.Lts as lts
 use Rattle.glue.proofs.gluing.shifted.Reads as shifted-reads
 
 abbrev Inv-loop : tie.InvT-loop
-Inv-loop parent₀ label na nb end i₀ parent i = (na ≤ i) × (i ≤ end) × (end ≡ na + nb) × Shift parent₀ na i parent
+Inv-loop parent₀ label na nb end k i₀ parent i = (na ≤ i) × (i ≤ end) × (end ≡ na + nb) × Swept (Relinked (λ q. na + q)) 0 na i parent₀ parent
 
 abbrev μ-loop : tie.MeasureT-loop
-μ-loop parent₀ label na nb end i₀ parent i = end - i
+μ-loop parent₀ label na nb end k i₀ parent i = end - i
 
 add-end : tie.Need-add-end Inv-loop μ-loop
 add-end c = search needs
 
+cast-k : tie.Need-cast-k Inv-loop μ-loop
+cast-k c = search needs
+
 loop-holds : tie.Need-loop-holds Inv-loop μ-loop
-loop-holds c = (omega arith, omega arith, refl, shift-start _ _)
+loop-holds c = (omega arith, omega arith, refl, swept-start _ _ _ _)
 
 mul-shifted : tie.Need-mul-shifted Inv-loop μ-loop
 mul-shifted c = search needs
@@ -44,13 +49,13 @@ loop-less : tie.Need-loop-less Inv-loop μ-loop
 loop-less c = search needs
 
 loop-again : tie.Need-loop-again Inv-loop μ-loop
-loop-again c = (omega arith, omega arith, refl, shift-more _ _ _ _ _ (c .before .before .before .loop .inv .3) (c .before .before .before .loop .inv .0) (let h = c .before .before .before .loop .inv .3 .lenP in omega arith) (c .shifted .ensures))
+loop-again c = (omega arith, omega arith, refl, here-more _ _ _ _ _ _ (c .before .before .before .loop .inv .3) (c .before .before .before .loop .inv .0) (let h = c .before .before .before .loop .inv .3 .same in omega arith) (c .shifted .ensures))
 
 same-length : tie.Need-same-length Inv-loop μ-loop
 same-length c = search needs
 
 returns : tie.Need-returns Inv-loop μ-loop
-returns c = shift-end _ _ _ _ _ _ (c .before .loop .inv .3) (omega arith)
+returns c = shift-end _ _ _ _ _ (swept-end _ _ _ _ _ _ _ (c .before .loop .inv .3) (omega arith))
 
 pub shift-rows-spec : {M : Type 1} → statement M
 shift-rows-spec =
@@ -59,6 +64,7 @@ shift-rows-spec =
     Inv-loop
     μ-loop
     add-end
+    cast-k
     loop-holds
     mul-shifted
     slice-read-shifted

@@ -1,31 +1,34 @@
--- A top has no link; any other link stays below 65,535, since x does.
-use mathlib.Core.Path.{_∙_, ap}
+-- A top has no link; any other link stays below 65,535, since x does. One law for each way out.
 use native.Mathlib.Omega.{arith}
 use borrow.Author.Needs.{needs}
-use Rattle.meaning.specs.Gluing.{moved}
-use Rattle.rows.specs.Rows.{noRow}
-use Rattle.glue.proofs.Merged.{moved-bound, relinked-none, relinked-some}
+use Rattle.glue.proofs.Codes.{relinked-none}
+use Rattle.glue.proofs.Merged.{hit-high, hit-low, miss-high, miss-low, moved-link}
 use Rattle.glue.proofs.merging.relinked.Statement.{statement}
 use Rattle.glue.proofs.merging.relinked.Tie as tie
 use Rattle.glue.proofs.merging.relinked.Reads as reads
 use Rattle.glue.proofs.merging.relinked.Lts as lts
-use Rattle.glue.proofs.merging.renumber.Reads as renumber-reads
-use Rattle.glue.proofs.merging.wide.Reads as wide-reads
+
+sub-result : tie.Need-sub-result
+sub-result c = search needs
 
 returns : tie.Need-returns
-returns c = relinked-none _ _ (c .before .args .p) (omega arith)
-
-wide-requires : tie.Need-wide-requires
-wide-requires c κs = search needs
-
-renumber-requires : tie.Need-renumber-requires
-renumber-requires c κs = search needs
-
-cast-result : tie.Need-cast-result
-cast-result c = omega (arith, moved-bound (c .before .before .before .args .x) (c .before .before .before .args .y) (c .before .before .before .args .p) noRow (omega arith) (omega arith), c .renumber .ensures ∙ ap (moved (c .before .before .before .args .x) (c .before .before .before .args .y)) (c .before .wide .ensures .0))
+returns c = moved-link (c .before .before .args .x) (c .before .before .args .y) (c .before .before .args .p) _ (λ e. omega arith) (omega arith) (omega arith) (hit-high _ _ _ (omega arith) (omega arith))
 
 returns-2 : tie.Need-returns-2
-returns-2 c = relinked-some (c .before .before .before .args .x) (c .before .before .before .args .y) (c .before .before .before .args .p) (c .renumber .result) (λ e. omega arith) (omega arith) (omega arith) (c .renumber .ensures ∙ ap (moved (c .before .before .before .args .x) (c .before .before .before .args .y)) (c .before .wide .ensures .0))
+returns-2 c = moved-link (c .before .before .args .x) (c .before .before .args .y) (c .before .before .args .p) _ (λ e. omega arith) (omega arith) (omega arith) (hit-low _ _ _ (omega arith) (omega arith))
+
+returns-3 : tie.Need-returns-3
+returns-3 c = relinked-none _ (c .before .before .args .p) (omega arith)
+
+sub-result-2 : tie.Need-sub-result-2
+sub-result-2 c = search needs
+
+returns-4 : tie.Need-returns-4
+returns-4 c = moved-link (c .before .before .before .args .x) (c .before .before .before .args .y) (c .before .before .before .args .p) _ (λ e. omega arith) (omega arith) (omega arith) (miss-high _ _ _ (omega arith))
+
+returns-5 : tie.Need-returns-5
+returns-5 c = moved-link (c .before .before .before .args .x) (c .before .before .before .args .y) (c .before .before .before .args .p) _ (λ e. omega arith) (omega arith) (omega arith) (miss-low _ _ _ (λ e. omega arith) (omega arith))
 
 pub relinked-spec : {M : Type 1} → statement M
-relinked-spec = tie.close (tie.spec returns wide-requires renumber-requires cast-result returns-2)
+relinked-spec =
+    tie.close (tie.spec sub-result returns returns-2 returns-3 sub-result-2 returns-4 returns-5)

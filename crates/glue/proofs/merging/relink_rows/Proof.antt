@@ -1,0 +1,73 @@
+-- The loop takes one link after the other: `Swept`.
+use Prim.Native.Nat.{_≤_, _-_}
+use native.Mathlib.Omega.{arith}
+use borrow.Author.Needs.{needs}
+use Rattle.meaning.specs.Gluing.{moved}
+use Rattle.glue.specs.Rows.{Relinked, Swept}
+use Rattle.glue.proofs.Sweeping.{swept-start, swept-more, swept-end}
+use Rattle.glue.proofs.merging.relink_rows.Statement.{statement}
+use Rattle.glue.proofs.merging.relink_rows.Tie as tie
+use Rattle.glue.proofs.merging.relink_rows.Reads as reads
+use Rattle.glue.proofs.merging.relink_rows.Lts as lts
+use Rattle.glue.proofs.merging.relinked.Reads as relinked-reads
+
+abbrev Inv-loop : tie.InvT-loop
+Inv-loop parent₀ from end gap x y i₀ parent i = (from ≤ i) × (i ≤ end) × Swept (Relinked (moved x y)) gap from i parent₀ parent
+
+abbrev μ-loop : tie.MeasureT-loop
+μ-loop parent₀ from end gap x y i₀ parent i = end - i
+
+loop-holds : tie.Need-loop-holds Inv-loop μ-loop
+loop-holds c = (omega arith, omega arith, swept-start _ _ _ _)
+
+add-relinked : tie.Need-add-relinked Inv-loop μ-loop
+add-relinked c = search needs
+
+mul-relinked : tie.Need-mul-relinked Inv-loop μ-loop
+mul-relinked c = search needs
+
+slice-read-relinked : tie.Need-slice-read-relinked Inv-loop μ-loop
+slice-read-relinked c = let h = c .before .before .loop .inv .2 .same in omega arith
+
+relinked-requires : tie.Need-relinked-requires Inv-loop μ-loop
+relinked-requires c κs = search needs
+
+mul-parent : tie.Need-mul-parent Inv-loop μ-loop
+mul-parent c = search needs
+
+slice-write-parent : tie.Need-slice-write-parent Inv-loop μ-loop
+slice-write-parent c = let h = c .before .before .before .loop .inv .2 .same in omega arith
+
+add-i : tie.Need-add-i Inv-loop μ-loop
+add-i c = search needs
+
+loop-less : tie.Need-loop-less Inv-loop μ-loop
+loop-less c = search needs
+
+loop-again : tie.Need-loop-again Inv-loop μ-loop
+loop-again c = (omega arith, omega arith, swept-more _ _ _ _ _ _ _ (c .before .before .before .loop .inv .2) (c .before .before .before .loop .inv .0) (let h = c .before .before .before .loop .inv .2 .same in omega arith) (c .relinked .ensures))
+
+same-length : tie.Need-same-length Inv-loop μ-loop
+same-length c = c .before .loop .inv .2 .same
+
+returns : tie.Need-returns Inv-loop μ-loop
+returns c = swept-end _ _ _ _ _ _ _ (c .before .loop .inv .2) (omega arith)
+
+pub relink-rows-spec : {M : Type 1} → statement M
+relink-rows-spec =
+    tie.close
+    (tie.spec
+    Inv-loop
+    μ-loop
+    loop-holds
+    add-relinked
+    mul-relinked
+    slice-read-relinked
+    relinked-requires
+    mul-parent
+    slice-write-parent
+    add-i
+    loop-less
+    loop-again
+    same-length
+    returns)
