@@ -279,7 +279,7 @@ module _ (fs ns key : List ℕ) (c : ℕ) (w : Loose fs ns key c) (l : c < lengt
         finite = finite-of fs₂ ns₁ j R₀ beside (rw (O₁ .nexts) (o .along .small));
         apart = rw reads-j (all-apart .4);
       },
-      rw reads-j (o .along-less),
+      rw reads-j (let z = ap size (o .reads) in omega arith),
     )
 
     module _ (fs₃ ns₃ : List ℕ) (q : ℕ) (O₂ : Ordered fs₂ ns₁ key j fs₃ ns₃ q) where

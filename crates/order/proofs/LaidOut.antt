@@ -1,4 +1,4 @@
--- One call that lays a forest out as rows; rows that show a forest are that forest, renumbered in image order.
+-- A call that lays a forest out as rows, brother by brother; rows that show a forest are that forest, renumbered in image order.
 use mathlib.Core.Path.{_≡_, refl, sym, ap, _∙_}
 use mathlib.Core.List.{List}
 use Prim.Native.Nat.{ℕ, suc, _+_, _-_, _<_, _≤_}
@@ -9,9 +9,9 @@ use lib.ListN.{length, getD, set, length-set}
 use lib.Seq.{getD-set-same, getD-set-other}
 use Rattle.meaning.specs.Tree.{Forest, bare, tree, size}
 use Rattle.rows.specs.Rows.{tagAt, mapT, Holds, width, Counted, Hung}
-use Rattle.order.specs.Links.{forestAt}
+use Rattle.order.specs.Links.{forestAt, height}
 use Rattle.order.specs.LaidOut.{Shows, Roomy, Laid, Borne}
-use Rattle.order.proofs.Links.{Opens, opens, read-none}
+use Rattle.order.proofs.Links.{Opens, opens, read-none, goes-down, goes-along}
 
 -- rows that are kept show what they showed
 shows-kept : (row up span row′ up′ span′ : List ℕ) (u at : ℕ) (F : Forest ℕ)
@@ -27,7 +27,7 @@ shows-kept row up span row′ up′ span′ u at (tree i k r) h (a, b, c, d, e) 
       shows-kept row up span row′ up′ span′ u (suc at + size k) r (λ j l m. h j (omega arith) (omega arith)) e,
     )
 
--- ------------------------------------------------------------------ one call of lay
+-- ------------------------------------------------------------------ one brother
 pub laid-none : (fs ns : List ℕ) (c u at : ℕ) (row up span : List ℕ) → length ns ≤ c → Laid fs ns c u at row up span row up span at
 laid-none fs ns c u at row up span h =
     let e = read-none fs ns c h in
@@ -117,6 +117,36 @@ module _ (fs ns : List ℕ) (c u at : ℕ) (row up span : List ℕ) (w : Roomy f
           where
             at-e : at < e
             at-e = omega (arith, end-is)
+
+-- ------------------------------------------------------------------ the loop over the brothers
+-- to lay out the brothers from d on, from row i on, is all that is left to do; they lie no deeper
+pub record Laying (fs ns : List ℕ) (c u at : ℕ) (row up span : List ℕ) (d i : ℕ) (row′ up′ span′ : List ℕ) : Type 0 where
+  pub room : Roomy fs ns d u i row′ up′ span′
+  pub level : height (forestAt fs ns d) ≤ height (forestAt fs ns c)
+  pub rest : (row″ up″ span″ : List ℕ) (r : ℕ) → Laid fs ns d u i row′ up′ span′ row″ up″ span″ r → Laid fs ns c u at row up span row″ up″ span″ r
+
+pub laying : (fs ns : List ℕ) (c u at : ℕ) (row up span : List ℕ) → Roomy fs ns c u at row up span → Laying fs ns c u at row up span c at row up span
+laying fs ns c u at row up span w = record { room = w; level = omega arith; rest = λ row″ up″ span″ r A. A }
+
+module _ (fs ns : List ℕ) (c u at : ℕ) (row up span : List ℕ) (d i : ℕ) (row′ up′ span′ : List ℕ) (S : Laying fs ns c u at row up span d i row′ up′ span′) where
+  pub laid-all : length ns ≤ d → Laid fs ns c u at row up span row′ up′ span′ i
+  laid-all h = S .rest row′ up′ span′ i (laid-none fs ns d u i row′ up′ span′ h)
+
+  module _ (l : d < length ns) (row₁ up₁ : List ℕ) (er : row₁ ≡ set row′ i d) (eu : up₁ ≡ set up′ i u) (k : ℕ) (ek : k ≡ getD fs d 0) where
+    pub below-laying : (t : ℕ) → height (forestAt fs ns c) ≡ t → (height (forestAt fs ns k) < t) × Roomy fs ns k i (i + 1) row₁ up₁ span′
+    below-laying t et =
+        (let h = goes-down fs ns d k (S .room .finite) l ek in omega (arith, h .1, S .level), kids-roomy fs ns d u i row′ up′ span′ (S .room) l row₁ up₁ er eu k ek)
+
+    pub laying-next : (row₂ up₂ span₂ : List ℕ) (e : ℕ) → Laid fs ns k i (i + 1) row₁ up₁ span′ row₂ up₂ span₂ e
+        → (span₃ : List ℕ) → span₃ ≡ set span₂ i (e - i) → (q : ℕ) → q ≡ getD ns d 0 → Laying fs ns c u at row up span q e row₂ up₂ span₃
+    laying-next row₂ up₂ span₂ e A span₃ es q eq =
+        let h = goes-along fs ns d q (S .room .finite) l eq in
+        record {
+          room = rest-roomy fs ns d u i row′ up′ span′ (S .room) l row₁ up₁ er eu k ek row₂ up₂ span₂ e A span₃ es q eq;
+          level = omega (arith, h .2, S .level);
+          rest = λ row₃ up₃ span₄ r B.
+              S .rest row₃ up₃ span₄ r (laid-some fs ns d u i row′ up′ span′ (S .room) l row₁ up₁ er eu k ek row₂ up₂ span₂ e A span₃ es q eq row₃ up₃ span₄ r B);
+        }
 
 -- ------------------------------------------------------------------ what the rows bear
 pub borne-more : (row code mark count : List ℕ) (i : ℕ) (code′ mark′ kids : List ℕ) → Borne row code mark count i code′ mark′ kids

@@ -1,5 +1,5 @@
 -- What is read at a row of links does not depend on the fuel, and one call of each function that compares.
-use mathlib.Core.Path.{_≡_, refl, sym}
+use mathlib.Core.Path.{_≡_, refl, sym, ap, _∙_}
 use mathlib.Core.List.{List}
 use mathlib.Core.Bool.{Bool, true, false}
 use Prim.Native.Nat.{ℕ, zero, suc, _<_, _≤_}
@@ -10,7 +10,7 @@ use Rattle.meaning.specs.Tree.{Forest, bare, tree, size}
 use Rattle.order.specs.declared.Order.{Order}
 use Rattle.order.specs.declared.Order.the-variants.{Before, Same, After}
 use Rattle.order.proofs.Comparing.{cmp-lt, cmp-gt, cmp-eq}
-use Rattle.order.specs.Links.{forestFrom, forestAt, Linked, Finite, thenBy, cmpN, cmpF, upTo, goesFirst, spotOf}
+use Rattle.order.specs.Links.{forestFrom, forestAt, Linked, height, Finite, thenBy, cmpN, cmpF, upTo, goesFirst, spotOf}
 
 -- ------------------------------------------------------------------ reading
 read-holds : (m : ℕ) (fs ns : List ℕ) (c : ℕ) (F : Forest ℕ) → Linked fs ns c F → size F ≤ m → forestFrom m fs ns c ≡ F
@@ -36,8 +36,6 @@ pub record Opens (fs ns : List ℕ) (c : ℕ) : Type 0 where
   pub reads : forestAt fs ns c ≡ tree c (forestAt fs ns (getD fs c 0)) (forestAt fs ns (getD ns c 0))
   pub down : Finite fs ns (getD fs c 0)
   pub along : Finite fs ns (getD ns c 0)
-  pub down-less : size (forestAt fs ns (getD fs c 0)) < size (forestAt fs ns c)
-  pub along-less : size (forestAt fs ns (getD ns c 0)) < size (forestAt fs ns c)
 
 pub opens : (fs ns : List ℕ) (c : ℕ) → Finite fs ns c → c < length ns → Opens fs ns c
 opens fs ns c w l = go (forestAt fs ns c) refl (w .holds) (w .small)
@@ -53,55 +51,84 @@ opens fs ns c w l = go (forestAt fs ns c) refl (w .holds) (w .small)
           reads = rw (ek, er, e, ei);
           down = finite-of fs ns (getD fs c 0) k hk′ (omega arith);
           along = finite-of fs ns (getD ns c 0) r hr′ (omega arith);
-          down-less = rw (ek, e) (omega arith);
-          along-less = rw (er, e) (omega arith);
         }
 
-pub goes-down : (fs ns : List ℕ) (c i : ℕ) → Finite fs ns c → c < length ns → i ≡ getD fs c 0 → Finite fs ns i × (size (forestAt fs ns i) < size (forestAt fs ns c))
-goes-down fs ns c i w l e = let o = opens fs ns c w l in (rw e (o .down), rw e (o .down-less))
+height-tree : (c : ℕ) (k r F : Forest ℕ) → F ≡ tree c k r → (height k < height F) × (height r ≤ height F)
+unfolding height
+height-tree c k r F e = rw e (omega arith, omega arith)
 
-pub goes-along : (fs ns : List ℕ) (c i : ℕ) → Finite fs ns c → c < length ns → i ≡ getD ns c 0 → Finite fs ns i × (size (forestAt fs ns i) < size (forestAt fs ns c))
-goes-along fs ns c i w l e = let o = opens fs ns c w l in (rw e (o .along), rw e (o .along-less))
+-- children lie lower
+pub goes-down : (fs ns : List ℕ) (c i : ℕ) → Finite fs ns c → c < length ns → i ≡ getD fs c 0
+    → Finite fs ns i × (height (forestAt fs ns i) < height (forestAt fs ns c)) × (size (forestAt fs ns i) < size (forestAt fs ns c))
+goes-down fs ns c i w l e =
+    let o = opens fs ns c w l in let z = ap size (o .reads) in
+    (rw e (o .down), rw e (height-tree _ _ _ _ (o .reads) .0), rw e (omega arith))
+
+-- later brothers lie no deeper
+pub goes-along : (fs ns : List ℕ) (c i : ℕ) → Finite fs ns c → c < length ns → i ≡ getD ns c 0
+    → Finite fs ns i × (size (forestAt fs ns i) < size (forestAt fs ns c)) × (height (forestAt fs ns i) ≤ height (forestAt fs ns c))
+goes-along fs ns c i w l e =
+    let o = opens fs ns c w l in let z = ap size (o .reads) in
+    (rw e (o .along), rw e (omega arith), rw e (height-tree _ _ _ _ (o .reads) .1))
 
 -- ------------------------------------------------------------------ comparing what is read at x and y
-module _ (fs ns key : List ℕ) (x y : ℕ) where
+-- the brothers from a on and from b on are left to compare, and lie no deeper
+pub record Pending (fs ns key : List ℕ) (x y a b : ℕ) : Type 0 where
+  pub one : Finite fs ns a
+  pub two : Finite fs ns b
+  pub level : height (forestAt fs ns a) ≤ height (forestAt fs ns x)
+  pub same : cmpF key (forestAt fs ns x) (forestAt fs ns y) ≡ cmpF key (forestAt fs ns a) (forestAt fs ns b)
+
+pub pending : (fs ns key : List ℕ) (x y : ℕ) → Finite fs ns x → Finite fs ns y → Pending fs ns key x y x y
+pending fs ns key x y wx wy = record { one = wx; two = wy; level = omega arith; same = refl }
+
+module _ (fs ns key : List ℕ) (x y a b : ℕ) (P : Pending fs ns key x y a b) where
   abbrev cmp : Order
   cmp = cmpF key (forestAt fs ns x) (forestAt fs ns y)
 
-  pub none-none : length ns ≤ x → length ns ≤ y → Same ≡ cmp
+  pub none-none : length ns ≤ a → length ns ≤ b → Same ≡ cmp
   unfolding cmpF
-  none-none hx hy = sym (rw (read-none fs ns x hx, read-none fs ns y hy))
+  none-none ha hb = sym (rw (P .same, read-none fs ns a ha, read-none fs ns b hb))
 
-  pub none-some : length ns ≤ x → Finite fs ns y → y < length ns → Before ≡ cmp
+  pub none-some : length ns ≤ a → b < length ns → Before ≡ cmp
   unfolding cmpF
-  none-some hx w hy = sym (rw (read-none fs ns x hx, opens fs ns y w hy .reads))
+  none-some ha hb = sym (rw (P .same, read-none fs ns a ha, opens fs ns b (P .two) hb .reads))
 
-  pub some-none : Finite fs ns x → x < length ns → length ns ≤ y → After ≡ cmp
+  pub some-none : a < length ns → length ns ≤ b → After ≡ cmp
   unfolding cmpF
-  some-none w hx hy = sym (rw (read-none fs ns y hy, opens fs ns x w hx .reads))
+  some-none ha hb = sym (rw (P .same, read-none fs ns b hb, opens fs ns a (P .one) ha .reads))
 
-  module _ (wx : Finite fs ns x) (wy : Finite fs ns y) (hx : x < length ns) (hy : y < length ns) (a b : ℕ) (ea : a ≡ getD key x 0) (eb : b ≡ getD key y 0) where
-    opened : cmp ≡ thenBy (cmpN a b) (thenBy (cmpF key (forestAt fs ns (getD fs x 0)) (forestAt fs ns (getD fs y 0))) (cmpF key (forestAt fs ns (getD ns x 0)) (forestAt fs ns (getD ns y 0))))
-    opened = rw (opens fs ns x wx hx .reads, opens fs ns y wy hy .reads, ea, eb) (unfold cmpF in refl)
+  module _ (ha : a < length ns) (hb : b < length ns) where
+    pub below-pending : (i j : ℕ) → i ≡ getD fs a 0 → j ≡ getD fs b 0 → (t : ℕ) → height (forestAt fs ns x) ≡ t
+        → (height (forestAt fs ns i) < t) × Finite fs ns i × Finite fs ns j
+    below-pending i j ei ej t et =
+        let d = goes-down fs ns a i (P .one) ha ei in
+        (omega (arith, d .1, P .level), d .0, goes-down fs ns b j (P .two) hb ej .0)
 
-    pub by-less : a < b → Before ≡ cmp
-    by-less h = sym (rw (opened, cmp-lt a b h))
+    module _ (k l : ℕ) (ek : k ≡ getD key a 0) (el : l ≡ getD key b 0) where
+      opened : cmp ≡ thenBy (cmpN k l) (thenBy (cmpF key (forestAt fs ns (getD fs a 0)) (forestAt fs ns (getD fs b 0))) (cmpF key (forestAt fs ns (getD ns a 0)) (forestAt fs ns (getD ns b 0))))
+      opened = P .same ∙ rw (opens fs ns a (P .one) ha .reads, opens fs ns b (P .two) hb .reads, ek, el) (unfold cmpF in refl)
 
-    pub by-more : b < a → After ≡ cmp
-    by-more h = sym (rw (opened, cmp-gt a b h))
+      pub by-less : k < l → Before ≡ cmp
+      by-less h = sym (rw (opened, cmp-lt k l h))
 
-    module _ (h : b ≤ a) (g : a ≤ b) (i j : ℕ) (ei : i ≡ getD fs x 0) (ej : j ≡ getD fs y 0) (o : Order) (eo : o ≡ cmpF key (forestAt fs ns i) (forestAt fs ns j)) where
-      equal : cmp ≡ thenBy o (cmpF key (forestAt fs ns (getD ns x 0)) (forestAt fs ns (getD ns y 0)))
-      equal = rw (opened, cmp-eq a b h g, eo, ei, ej)
+      pub by-more : l < k → After ≡ cmp
+      by-more h = sym (rw (opened, cmp-gt k l h))
 
-      pub by-before : o ≡ Before → Before ≡ cmp
-      by-before e = sym (rw (equal, e))
+      module _ (h : l ≤ k) (g : k ≤ l) (i j : ℕ) (ei : i ≡ getD fs a 0) (ej : j ≡ getD fs b 0) (o : Order) (eo : o ≡ cmpF key (forestAt fs ns i) (forestAt fs ns j)) where
+        equal : cmp ≡ thenBy o (cmpF key (forestAt fs ns (getD ns a 0)) (forestAt fs ns (getD ns b 0)))
+        equal = rw (opened, cmp-eq k l h g, eo, ei, ej)
 
-      pub by-after : o ≡ After → After ≡ cmp
-      by-after e = sym (rw (equal, e))
+        pub by-before : o ≡ Before → Before ≡ cmp
+        by-before e = sym (rw (equal, e))
 
-      pub by-rest : o ≡ Same → (k l : ℕ) → k ≡ getD ns x 0 → l ≡ getD ns y 0 → (r : Order) → r ≡ cmpF key (forestAt fs ns k) (forestAt fs ns l) → r ≡ cmp
-      by-rest e k l ek el r er = rw (equal, e, er, ek, el)
+        pub by-after : o ≡ After → After ≡ cmp
+        by-after e = sym (rw (equal, e))
+
+        pub pending-next : o ≡ Same → (a′ b′ : ℕ) → a′ ≡ getD ns a 0 → b′ ≡ getD ns b 0 → Pending fs ns key x y a′ b′
+        pending-next e a′ b′ ea eb =
+            let u = goes-along fs ns a a′ (P .one) ha ea in
+            record { one = u .0; two = goes-along fs ns b b′ (P .two) hb eb .0; level = omega (arith, u .2, P .level); same = rw (equal, e, ea, eb) }
 
 -- ------------------------------------------------------------------ goes first
 module _ (fs ns key : List ℕ) (c q a b : ℕ) (ea : a ≡ getD key c 0) (eb : b ≡ getD key q 0) where

@@ -4,7 +4,7 @@ use mathlib.Core.Path.{_≡_}
 use mathlib.Core.Logic.{_⊎_}
 use mathlib.Core.List.{List}
 use mathlib.Core.Bool.{Bool, true, false, cond}
-use Prim.Native.Nat.{ℕ, zero, suc, _<_, _≤_}
+use Prim.Native.Nat.{ℕ, zero, suc, _<_, _≤_, max}
 use lib.ListN.{length, getD}
 use lib.Dec.{ltb}
 use Rattle.meaning.specs.Tree.{Forest, bare, tree, size}
@@ -24,6 +24,11 @@ forestAt fs ns c = forestFrom (length ns) fs ns c
 abbrev pub Linked : List ℕ → List ℕ → ℕ → Forest ℕ → Type 0
 Linked fs ns c bare = length ns ≤ c
 Linked fs ns c (tree i k r) = (c ≡ i) × (i < length ns) × Linked fs ns (getD fs i 0) k × Linked fs ns (getD ns i 0) r
+
+-- the number of levels of a forest
+unfoldable pub height : {A : Type 0} → Forest A → ℕ
+height bare = 0
+height (tree a k r) = max (suc (height k)) (height r)
 
 -- row j is one of the forest's
 abbrev pub In : ℕ → Forest ℕ → Type 0

@@ -140,41 +140,43 @@ pub enum Order {
 }
 
 // The brothers from x on against the brothers from y on: the first two, then their later brothers. Equal keys have equally many children, so two
-// lists that are compared end together, and records are compared byte by byte although none is written. At most one frame a row is open.
+// lists that are compared end together, and records are compared byte by byte although none is written. Only children are compared by a call, so at
+// most one frame a level is open.
 fn compare(first: &[u16], next: &[u16], key: &[u64], x: usize, y: usize) -> Order
     requires { ⌜ Wide (now first) (now next) (now key) × Finite (now first) (now next) x × Finite (now first) (now next) y ⌝ }
     ensures { λ r. ⌜ r ≡ cmpF (now (key .entry)) (forestAt (now (first .entry)) (now (next .entry)) x) (forestAt (now (first .entry)) (now (next .entry)) y) ⌝ }
 {
     let n = next.len();
-    if n <= x {
-        if n <= y {
-            return Order::Same;
+    let mut a = x;
+    let mut b = y;
+    while a < n {
+        if n <= b {
+            return Order::After;
         }
-        return Order::Before;
-    }
-    if n <= y {
-        return Order::After;
-    }
-    let a = key_at(key, x);
-    let b = key_at(key, y);
-    if a < b {
-        return Order::Before;
-    }
-    if b < a {
-        return Order::After;
-    }
-    let i = link(first, x);
-    let j = link(first, y);
-    let o = compare(first, next, key, i, j);
-    match o {
-        Order::Before => Order::Before,
-        Order::After => Order::After,
-        Order::Same => {
-            let k = link(next, x);
-            let l = link(next, y);
-            compare(first, next, key, k, l)
+        let k = key_at(key, a);
+        let l = key_at(key, b);
+        if k < l {
+            return Order::Before;
+        }
+        if l < k {
+            return Order::After;
+        }
+        let i = link(first, a);
+        let j = link(first, b);
+        let o = compare(first, next, key, i, j);
+        match o {
+            Order::Before => return Order::Before,
+            Order::After => return Order::After,
+            Order::Same => {
+                a = link(next, a);
+                b = link(next, b);
+            }
         }
     }
+    if b < n {
+        return Order::Before;
+    }
+    Order::Same
 }
 
 // Whether the record of the tree at c goes before that of the tree at q or is equal to it. Later brothers don't matter.
@@ -255,7 +257,7 @@ fn in_order(first: &mut [u16], next: &mut [u16], key: &[u64], c: usize) -> usize
 
 // ---------------------------------------------------------------- rows in image order
 
-// Lays the forest at c out from row `at` on, its brothers below row u, and returns the first row behind it.
+// Lays the forest at c out from row `at` on, its brothers below row u, and returns the first row behind it. Only children are laid out by a call.
 fn lay(
     first: &[u16],
     next: &[u16],
@@ -270,16 +272,18 @@ fn lay(
     ensures { λ r. ⌜ Laid (now (first .entry)) (now (next .entry)) c u at (now (row .entry)) (now (up .entry)) (now (span .entry)) (now (row .exit)) (now (up .exit)) (now (span .exit)) r ⌝ }
 {
     let n = next.len();
-    if n <= c {
-        return at;
+    let mut d = c;
+    let mut i = at;
+    while d < n {
+        set_link(row, i, d);
+        set_link(up, i, u);
+        let k = link(first, d);
+        let e = lay(first, next, k, i, i + 1, row, up, span);
+        set_link(span, i, e - i);
+        d = link(next, d);
+        i = e;
     }
-    set_link(row, at, c);
-    set_link(up, at, u);
-    let k = link(first, c);
-    let e = lay(first, next, k, at, at + 1, row, up, span);
-    set_link(span, at, e - at);
-    let q = link(next, c);
-    lay(first, next, q, u, e, row, up, span)
+    i
 }
 
 // Gives each of the n rows the label code, the mark and the number of children of its row in the table.

@@ -40,7 +40,7 @@ in-order-in-order-requires t c κs =
     let c1 = c .before .before in
     let c2 = c1 .before .before in
     let c3 = c2 .before .before .before .before in (
-      rw (← c3 .pre .0) (goes-down _ _ _ _ (c3 .pre .1 .finite) (c2 .if1 .left) (c1 .link .ensures .0) .1),
+      rw (← c3 .pre .0) (goes-down _ _ _ _ (c3 .pre .1 .finite) (c2 .if1 .left) (c1 .link .ensures .0) .2),
       kids-loose _ _ _ _ (c3 .pre .1) (c2 .if1 .left) _ (c1 .link .ensures .0) (c1 .link .ensures .1),
     )
 
