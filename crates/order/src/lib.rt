@@ -255,7 +255,7 @@ fn in_order(first: &mut [u16], next: &mut [u16], key: &[u64], c: usize) -> usize
 
 // ---------------------------------------------------------------- rows in image order
 
-// The row above those that lie below no row.
+// The parent of a row at the top.
 const NO_ROW: usize = 65535;
 
 // Lays the forest at c out as rows, and returns how many there are. It goes down to the first child; where there is none, all below row u is laid
