@@ -77,20 +77,19 @@ module _ (parent code mark : List ℕ) (n : ℕ) (first next count key row code�
           size-is : size (forestAt fs₄ ns₄ q) ≡ n
           size-is = ap size reads ∙ size-sorted parent code mark n T fs₂ ns₂ count₂ G key₃ K
 
-          pub roomy : Roomy fs₄ ns₄ q 65535 0 row up span
+          pub roomy : Roomy fs₄ ns₄ q row up span
           roomy = record {
             firsts = omega (arith, O .firsts, O .nexts, loose .wide .firsts);
             finite = O .finite;
             short = omega (arith, O .nexts, loose .short);
-            low = omega arith;
-            last = omega (arith, size-is, T .few);
+            few = omega (arith, size-is, T .few);
             rows = omega (arith, size-is, R .rows);
             ups = omega (arith, size-is, R .outUps);
             spans = omega (arith, size-is, R .outSpans);
           }
 
           -- -------------------------------------------------------- lay
-          module _ (row₅ up₅ span₅ : List ℕ) (r : ℕ) (A : Laid fs₄ ns₄ q 65535 0 row up span row₅ up₅ span₅ r) where
+          module _ (row₅ up₅ span₅ : List ℕ) (r : ℕ) (A : Laid fs₄ ns₄ q row up span row₅ up₅ span₅ r) where
             shows : Shows row₅ up₅ span₅ noRow 0 (orderedBy key₃ (tableShape parent n))
             shows = rw reads at (A .shows)
 

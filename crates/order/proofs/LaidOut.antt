@@ -1,152 +1,237 @@
--- A call that lays a forest out as rows, brother by brother; rows that show a forest are that forest, renumbered in image order.
+-- The turns of the loop that lays a forest out as rows; rows that show a forest are that forest, renumbered in image order.
 use mathlib.Core.Path.{_≡_, refl, sym, ap, _∙_}
 use mathlib.Core.List.{List}
-use Prim.Native.Nat.{ℕ, suc, _+_, _-_, _<_, _≤_}
+use Prim.Native.Nat.{ℕ, suc, _+_, _-_, _*_, _%_, _<_, _≤_}
 use native.Mathlib.Numerals.{add-one}
 use native.Mathlib.Omega.{arith}
 use native.Mathlib.Decide.{ℕ-discrete}
 use lib.ListN.{length, getD, set, length-set}
 use lib.Seq.{getD-set-same, getD-set-other}
 use Rattle.meaning.specs.Tree.{Forest, bare, tree, size}
-use Rattle.rows.specs.Rows.{tagAt, mapT, Holds, width, Counted, Hung}
-use Rattle.order.specs.Links.{forestAt, height}
+use Rattle.rows.specs.Rows.{noRow, tagAt, mapT, Holds, width, Counted, Hung}
+use Rattle.order.specs.Links.{Finite, forestAt}
 use Rattle.order.specs.LaidOut.{Shows, Roomy, Laid, Borne}
-use Rattle.order.proofs.Links.{Opens, opens, read-none, goes-down, goes-along}
+use Rattle.order.proofs.Links.{Opens, opens, read-none}
 
--- rows that are kept show what they showed
-shows-kept : (row up span row′ up′ span′ : List ℕ) (u at : ℕ) (F : Forest ℕ)
-    → ((j : ℕ) → at ≤ j → j < at + size F → (getD row′ j 0 ≡ getD row j 0) × (getD up′ j 0 ≡ getD up j 0) × (getD span′ j 0 ≡ getD span j 0))
-    → Shows row up span u at F → Shows row′ up′ span′ u at F
-shows-kept row up span row′ up′ span′ u at bare h s = tt
-shows-kept row up span row′ up′ span′ u at (tree i k r) h (a, b, c, d, e) =
-    let z = h at (omega arith) (omega arith) in (
-      z .0 ∙ a,
-      z .1 ∙ b,
-      z .2 ∙ c,
-      shows-kept row up span row′ up′ span′ at (suc at) k (λ j l m. h j (omega arith) (omega arith)) d,
-      shows-kept row up span row′ up′ span′ u (suc at + size k) r (λ j l m. h j (omega arith) (omega arith)) e,
-    )
+-- ------------------------------------------------------------------ one turn of lay
+-- the rows that wait for the end of what lies below them, from the lowest up, each with its later brothers
+pub data Above : Type 0 where
+  top : Above
+  below : ℕ → Forest ℕ → Above → Above
 
--- ------------------------------------------------------------------ one brother
-pub laid-none : (fs ns : List ℕ) (c u at : ℕ) (row up span : List ℕ) → length ns ≤ c → Laid fs ns c u at row up span row up span at
-laid-none fs ns c u at row up span h =
-    let e = read-none fs ns c h in
-    record { end = rw e (omega arith); shows = rw e tt; kept = λ j l. (refl, refl, refl); rows = refl; ups = refl; spans = refl }
+-- the row below which the next rows come
+abbrev pub lowest : Above → ℕ
+lowest top = noRow
+lowest (below u r A) = u
 
-module _ (fs ns : List ℕ) (c u at : ℕ) (row up span : List ℕ) (w : Roomy fs ns c u at row up span) (l : c < length ns) where
-  abbrev o : Opens fs ns c
-  o = opens fs ns c (w .finite) l
+-- how many rows their later brothers will have
+abbrev left : Above → ℕ
+left top = 0
+left (below u r A) = size r + left A
 
-  abbrev K : Forest ℕ
-  K = forestAt fs ns (getD fs c 0)
+-- row j is none of them
+abbrev Off : ℕ → Above → Type 0
+Off j top = Unit {0}
+Off j (below u r A) = (j ≡ u → ⊥) × Off j A
 
-  abbrev R : Forest ℕ
-  R = forestAt fs ns (getD ns c 0)
+-- they stand before row `at`, each hangs below the next one, and their later brothers are the linked ones
+abbrev Waits : List ℕ → List ℕ → List ℕ → List ℕ → ℕ → Above → Type 0
+Waits fs ns row up at top = Unit {0}
+Waits fs ns row up at (below u r A) = (u < at) × (getD row u 0 < length ns) × (getD up u 0 ≡ lowest A)
+    × Finite fs ns (getD ns (getD row u 0) 0) × (forestAt fs ns (getD ns (getD row u 0) 0) ≡ r) × Waits fs ns row up u A
 
-  whole : size (forestAt fs ns c) ≡ suc (size K + size R)
-  whole = ap size (o .reads)
+-- their spans end at row e, and their later brothers follow there
+abbrev Follows : List ℕ → List ℕ → List ℕ → ℕ → Above → Type 0
+Follows row up span e top = Unit {0}
+Follows row up span e (below u r A) = (getD span u 0 ≡ e - u) × Shows row up span (lowest A) e r × Follows row up span (e + size r) A
 
-  pub fits : (at < length row) × (at < length up) × (at + 1 < 65536)
-  fits = (omega (arith, whole, w .rows), omega (arith, whole, w .ups), omega (arith, whole, w .last))
+-- what was written before row `at` is kept: all but the spans of those that wait
+abbrev Keeps : List ℕ → List ℕ → List ℕ → List ℕ → List ℕ → List ℕ → ℕ → Above → Type 0
+Keeps row up span row′ up′ span′ at A = (j : ℕ) → j < at → (getD row′ j 0 ≡ getD row j 0) × (getD up′ j 0 ≡ getD up j 0) × (Off j A → getD span′ j 0 ≡ getD span j 0)
 
-  module _ (row₁ up₁ : List ℕ) (er : row₁ ≡ set row at c) (eu : up₁ ≡ set up at u) (k : ℕ) (ek : k ≡ getD fs c 0) where
-    len-row : length row₁ ≡ length row
-    len-row = ap length er ∙ length-set row at c
+-- before row `at` the forest at c is laid out but for the forest at x, which comes next below row u, and for what waits: rows that show both show it
+pub record Laying (fs ns : List ℕ) (c : ℕ) (row₀ up₀ span₀ : List ℕ) (row up span : List ℕ) (at u x : ℕ) : Type 0 where
+  pub rows : length row ≡ length row₀
+  pub ups : length up ≡ length up₀
+  pub spans : length span ≡ length span₀
+  pub above : Above
+  pub under : u ≡ lowest above
+  pub finite : Finite fs ns x
+  pub waits : Waits fs ns row up at above
+  pub total : at + size (forestAt fs ns x) + left above ≡ size (forestAt fs ns c)
+  pub closes : (row′ up′ span′ : List ℕ) → Keeps row up span row′ up′ span′ at above → Shows row′ up′ span′ u at (forestAt fs ns x)
+      → Follows row′ up′ span′ (at + size (forestAt fs ns x)) above → Shows row′ up′ span′ noRow 0 (forestAt fs ns c)
 
-    len-up : length up₁ ≡ length up
-    len-up = ap length eu ∙ length-set up at u
+-- a row at or behind `at` does not wait
+off : (fs ns row up : List ℕ) (at j : ℕ) (A : Above) → Waits fs ns row up at A → at ≤ j → Off j A
+off fs ns row up at j top w h = tt
+off fs ns row up at j (below u r A) (l, a, b, c, d, w) h = ((λ e. omega arith), off fs ns row up u j A w (omega arith))
 
-    pub kids-roomy : Roomy fs ns k at (at + 1) row₁ up₁ span
-    kids-roomy = record {
-      firsts = w .firsts;
-      finite = rw ek (o .down);
-      short = w .short;
-      low = omega (arith, fits .2);
-      last = rw ek (omega (arith, whole, w .last));
-      rows = rw (ek, len-row) (omega (arith, whole, w .rows));
-      ups = rw (ek, len-up) (omega (arith, whole, w .ups));
-      spans = rw ek (omega (arith, whole, w .spans));
-    }
+waits-kept : (fs ns row up row′ up′ : List ℕ) (at at′ : ℕ) (A : Above) → at ≤ at′
+    → ((j : ℕ) → j < at → (getD row′ j 0 ≡ getD row j 0) × (getD up′ j 0 ≡ getD up j 0)) → Waits fs ns row up at A → Waits fs ns row′ up′ at′ A
+waits-kept fs ns row up row′ up′ at at′ top g h w = tt
+waits-kept fs ns row up row′ up′ at at′ (below u r A) g h (l, a, b, c, d, w) =
+    let z = h u l in
+    (omega arith, rw (z .0) a, z .1 ∙ b, rw (z .0) c, rw (z .0) d, waits-kept fs ns row up row′ up′ u u A (omega arith) (λ j m. h j (omega arith)) w)
 
-    module _ (row₂ up₂ span₂ : List ℕ) (e : ℕ) (A : Laid fs ns k at (at + 1) row₁ up₁ span row₂ up₂ span₂ e) where
-      end-is : e ≡ suc at + size K
-      end-is = A .end ∙ rw (ek, add-one at)
+-- the row above stands before `at`, or is none
+lowest-before : (fs ns row up : List ℕ) (at : ℕ) (A : Above) → Waits fs ns row up at A → at ≤ noRow → (lowest A < 65536) × ((lowest A + 1) % 65536 ≤ at)
+lowest-before fs ns row up at top w h = (omega arith, omega arith)
+lowest-before fs ns row up at (below u r A) (l, a, b, c, d, w) h = (omega arith, omega arith)
 
-      pub span-fits : (at < length span₂) × (at ≤ e) × (e - at < 65536)
-      span-fits = (rw (A .spans) (omega (arith, whole, w .spans)), omega (arith, end-is), omega (arith, end-is, whole, w .last))
+-- it falls at each turn: a row more is laid out, or the row above stands before the last one
+abbrev pub toGo : Forest ℕ → ℕ → ℕ → ℕ
+toGo F at u = 65536 * (size F - at) + (u + 1) % 65536
 
-      module _ (span₃ : List ℕ) (es : span₃ ≡ set span₂ at (e - at)) (q : ℕ) (eq : q ≡ getD ns c 0) where
-        len-span : length span₃ ≡ length span
-        len-span = ap length es ∙ length-set span₂ at (e - at) ∙ A .spans
+module _ (fs ns : List ℕ) (c : ℕ) (row₀ up₀ span₀ : List ℕ) (room : Roomy fs ns c row₀ up₀ span₀) where
+  abbrev F : Forest ℕ
+  F = forestAt fs ns c
 
-        pub rest-roomy : Roomy fs ns q u e row₂ up₂ span₃
-        rest-roomy = record {
-          firsts = w .firsts;
-          finite = rw eq (o .along);
-          short = w .short;
-          low = w .low;
-          last = rw eq (omega (arith, end-is, whole, w .last));
-          rows = rw (eq, A .rows, len-row) (omega (arith, end-is, whole, w .rows));
-          ups = rw (eq, A .ups, len-up) (omega (arith, end-is, whole, w .ups));
-          spans = rw (eq, len-span) (omega (arith, end-is, whole, w .spans));
-        }
+  pub laying-none : Laying fs ns c row₀ up₀ span₀ row₀ up₀ span₀ 0 noRow c
+  laying-none = record {
+    rows = refl;
+    ups = refl;
+    spans = refl;
+    above = top;
+    under = refl;
+    finite = room .finite;
+    waits = tt;
+    total = omega arith;
+    closes = λ row′ up′ span′ h s t. s;
+  }
 
-        pub laid-some : (row₃ up₃ span₄ : List ℕ) (r : ℕ) → Laid fs ns q u e row₂ up₂ span₃ row₃ up₃ span₄ r → Laid fs ns c u at row up span row₃ up₃ span₄ r
-        laid-some row₃ up₃ span₄ r B = record {
-          end = B .end ∙ rw eq (omega (arith, end-is, whole));
-          shows = rw (o .reads) (
-            B .kept at at-e .0 ∙ A .kept at (omega arith) .0 ∙ rw er (getD-set-same row at c 0 (fits .0)),
-            B .kept at at-e .1 ∙ A .kept at (omega arith) .1 ∙ rw eu (getD-set-same up at u 0 (fits .1)),
-            B .kept at at-e .2 ∙ rw es (getD-set-same span₂ at (e - at) 0 (span-fits .0) ∙ (let z : e - at ≡ suc (size K) = omega (arith, end-is) in z)),
-            shows-kept row₂ up₂ span₂ row₃ up₃ span₄ at (suc at) K
-                (λ j lj mj. let z = B .kept j (omega (arith, end-is)) in (z .0, z .1, z .2 ∙ rw es (getD-set-other span₂ at j (e - at) 0 (λ x. omega arith))))
-                (rw (ek, add-one at) at (A .shows)),
-            rw (eq, end-is) at (B .shows),
+  module _ (row up span : List ℕ) (at u x : ℕ) (w : Laying fs ns c row₀ up₀ span₀ row up span at u x) where
+    pub low : u < 65536
+    low = rw (w .under) (lowest-before fs ns row up at (w .above) (w .waits) (omega (arith, w .total, room .few)) .0)
+
+    -- ------------------------------------------------------------ down to the first child
+    module _ (l : x < length ns) where
+      abbrev o : Opens fs ns x
+      o = opens fs ns x (w .finite) l
+
+      abbrev K : Forest ℕ
+      K = forestAt fs ns (getD fs x 0)
+
+      abbrev R : Forest ℕ
+      R = forestAt fs ns (getD ns x 0)
+
+      whole : size (forestAt fs ns x) ≡ suc (size K + size R)
+      whole = ap size (o .reads)
+
+      more : at < size F
+      more = omega (arith, w .total, whole)
+
+      pub fits : (at < length row) × (at < length up) × (at + 1 < 65536)
+      fits = (omega (arith, more, room .rows, w .rows), omega (arith, more, room .ups, w .ups), omega (arith, more, room .few))
+
+      pub down-less : toGo F (at + 1) at < toGo F at u
+      down-less = omega (arith, more, room .few)
+
+      module _ (row₁ up₁ : List ℕ) (er : row₁ ≡ set row at x) (eu : up₁ ≡ set up at u) (k : ℕ) (ek : k ≡ getD fs x 0) where
+        row-here : getD row₁ at 0 ≡ x
+        row-here = rw er (getD-set-same row at x 0 (fits .0))
+
+        up-here : getD up₁ at 0 ≡ u
+        up-here = rw eu (getD-set-same up at u 0 (fits .1))
+
+        same : (j : ℕ) → j < at → (getD row₁ j 0 ≡ getD row j 0) × (getD up₁ j 0 ≡ getD up j 0)
+        same j h = (rw er (getD-set-other row at j x 0 (λ e. omega arith)), rw eu (getD-set-other up at j u 0 (λ e. omega arith)))
+
+        pub laying-down : Laying fs ns c row₀ up₀ span₀ row₁ up₁ span (at + 1) at k
+        laying-down = rw (add-one at, ek) (record {
+          rows = ap length er ∙ length-set row at x ∙ w .rows;
+          ups = ap length eu ∙ length-set up at u ∙ w .ups;
+          spans = w .spans;
+          above = below at R (w .above);
+          under = refl;
+          finite = o .down;
+          waits = (
+            omega arith,
+            rw row-here l,
+            up-here ∙ w .under,
+            rw row-here (o .along),
+            rw row-here refl,
+            waits-kept fs ns row up row₁ up₁ at at (w .above) (omega arith) same (w .waits),
           );
-          kept = λ j lj.
-              let z = B .kept j (omega (arith, end-is)) in
-              let y = A .kept j (omega arith) in (
-                z .0 ∙ y .0 ∙ rw er (getD-set-other row at j c 0 (λ x. omega arith)),
-                z .1 ∙ y .1 ∙ rw eu (getD-set-other up at j u 0 (λ x. omega arith)),
-                z .2 ∙ rw es (getD-set-other span₂ at j (e - at) 0 (λ x. omega arith)) ∙ y .2,
-              );
-          rows = B .rows ∙ A .rows ∙ len-row;
-          ups = B .ups ∙ A .ups ∙ len-up;
-          spans = B .spans ∙ len-span;
-        }
-          where
-            at-e : at < e
-            at-e = omega (arith, end-is)
+          total = omega (arith, w .total, whole);
+          closes = λ row′ up′ span′ h s t.
+              let y = h at (omega arith) in
+              let e : suc at + size K - at ≡ suc (size K) = omega arith in
+              let z : suc at + size K + size R ≡ at + size (forestAt fs ns x) = omega (arith, whole) in
+              w .closes row′ up′ span′
+              (λ j m. let v = h j (omega arith) in (v .0 ∙ same j m .0, v .1 ∙ same j m .1, λ f. v .2 ((λ q. omega arith), f)))
+              (rw (o .reads) (y .0 ∙ row-here, y .1 ∙ up-here, t .0 ∙ e, s, rw (← w .under) at (t .1)))
+              (rw z at (t .2));
+        })
 
--- ------------------------------------------------------------------ the loop over the brothers
--- to lay out the brothers from d on, from row i on, is all that is left to do; they lie no deeper
-pub record Laying (fs ns : List ℕ) (c u at : ℕ) (row up span : List ℕ) (d i : ℕ) (row′ up′ span′ : List ℕ) : Type 0 where
-  pub room : Roomy fs ns d u i row′ up′ span′
-  pub level : height (forestAt fs ns d) ≤ height (forestAt fs ns c)
-  pub rest : (row″ up″ span″ : List ℕ) (r : ℕ) → Laid fs ns d u i row′ up′ span′ row″ up″ span″ r → Laid fs ns c u at row up span row″ up″ span″ r
+    -- ------------------------------------------------------------ all below row u is laid out
+    module _ (h : length ns ≤ x) where
+      none : forestAt fs ns x ≡ bare
+      none = read-none fs ns x h
 
-pub laying : (fs ns : List ℕ) (c u at : ℕ) (row up span : List ℕ) → Roomy fs ns c u at row up span → Laying fs ns c u at row up span c at row up span
-laying fs ns c u at row up span w = record { room = w; level = omega arith; rest = λ row″ up″ span″ r A. A }
+      -- rows that show what follows show the whole forest
+      abbrev Closes : Above → Type 0
+      Closes A = (row′ up′ span′ : List ℕ) → Keeps row up span row′ up′ span′ at A → Follows row′ up′ span′ at A → Shows row′ up′ span′ noRow 0 F
 
-module _ (fs ns : List ℕ) (c u at : ℕ) (row up span : List ℕ) (d i : ℕ) (row′ up′ span′ : List ℕ) (S : Laying fs ns c u at row up span d i row′ up′ span′) where
-  pub laid-all : length ns ≤ d → Laid fs ns c u at row up span row′ up′ span′ i
-  laid-all h = S .rest row′ up′ span′ i (laid-none fs ns d u i row′ up′ span′ h)
+      closes : Closes (w .above)
+      closes row′ up′ span′ k t = w .closes row′ up′ span′ k (rw none tt) (let e : at + size (forestAt fs ns x) ≡ at = omega (arith, ap size none) in rw e t)
 
-  module _ (l : d < length ns) (row₁ up₁ : List ℕ) (er : row₁ ≡ set row′ i d) (eu : up₁ ≡ set up′ i u) (k : ℕ) (ek : k ≡ getD fs d 0) where
-    pub below-laying : (t : ℕ) → height (forestAt fs ns c) ≡ t → (height (forestAt fs ns k) < t) × Roomy fs ns k i (i + 1) row₁ up₁ span′
-    below-laying t et =
-        (let h = goes-down fs ns d k (S .room .finite) l ek in omega (arith, h .1, S .level), kids-roomy fs ns d u i row′ up′ span′ (S .room) l row₁ up₁ er eu k ek)
+      total : at + left (w .above) ≡ size F
+      total = omega (arith, w .total, ap size none)
 
-    pub laying-next : (row₂ up₂ span₂ : List ℕ) (e : ℕ) → Laid fs ns k i (i + 1) row₁ up₁ span′ row₂ up₂ span₂ e
-        → (span₃ : List ℕ) → span₃ ≡ set span₂ i (e - i) → (q : ℕ) → q ≡ getD ns d 0 → Laying fs ns c u at row up span q e row₂ up₂ span₃
-    laying-next row₂ up₂ span₂ e A span₃ es q eq =
-        let h = goes-along fs ns d q (S .room .finite) l eq in
-        record {
-          room = rest-roomy fs ns d u i row′ up′ span′ (S .room) l row₁ up₁ er eu k ek row₂ up₂ span₂ e A span₃ es q eq;
-          level = omega (arith, h .2, S .level);
-          rest = λ row₃ up₃ span₄ r B.
-              S .rest row₃ up₃ span₄ r (laid-some fs ns d u i row′ up′ span′ (S .room) l row₁ up₁ er eu k ek row₂ up₂ span₂ e A span₃ es q eq row₃ up₃ span₄ r B);
-        }
+      pub laid-all : u ≡ noRow → Laid fs ns c row₀ up₀ span₀ row up span at
+      laid-all e = go (w .above) (w .under) (w .waits) total closes
+        where
+          go : (A : Above) → u ≡ lowest A → Waits fs ns row up at A → at + left A ≡ size F → Closes A → Laid fs ns c row₀ up₀ span₀ row up span at
+          go top q v s k = record {
+            end = omega (arith, s);
+            shows = k row up span (λ j m. (refl, refl, λ f. refl)) tt;
+            rows = w .rows;
+            ups = w .ups;
+            spans = w .spans;
+          }
+          go (below v r A) q (m, a, b, d, f, y) s k = absurd (omega (arith, room .few, s, q, e, m))
+
+      -- row u gets its span, and its next brother comes next
+      pub record Climbs : Type 0 where
+        pub before : u < at
+        pub fits : (u < length row) × (u < length up)
+        pub span-fits : (u < length span) × (at - u < 65536)
+        pub inside : getD row u 0 < length ns
+        pub up-less : toGo F at (getD up u 0) < toGo F at u
+        pub laying-on : (span₁ : List ℕ) → span₁ ≡ set span u (at - u) → Laying fs ns c row₀ up₀ span₀ row up span₁ at (getD up u 0) (getD ns (getD row u 0) 0)
+
+      pub climbs : (u ≡ noRow → ⊥) → Climbs
+      climbs d = go (w .above) (w .under) (w .waits) total closes
+        where
+          go : (A : Above) → u ≡ lowest A → Waits fs ns row up at A → at + left A ≡ size F → Closes A → Climbs
+          go top q v s k = absurd (d q)
+          go (below v r A) q (m, i, p, f, g, y) s k =
+              let b = lowest-before fs ns row up v A y (omega (arith, room .few, s)) .1 in
+              let l : u < at = rw q m in
+              let ls : u < length span = omega (arith, s, room .spans, w .spans) in
+              record {
+                before = l;
+                fits = (omega (arith, s, room .rows, w .rows), omega (arith, s, room .ups, w .ups));
+                span-fits = (ls, omega (arith, s, room .few));
+                inside = rw q i;
+                up-less = rw (q, p) (omega (arith, b, m, room .few, s));
+                laying-on = λ span₁ es. record {
+                  rows = w .rows;
+                  ups = w .ups;
+                  spans = ap length es ∙ length-set span u (at - u) ∙ w .spans;
+                  above = A;
+                  under = rw q p;
+                  finite = rw q f;
+                  waits = waits-kept fs ns row up row up v at A (omega (arith, m)) (λ j l. (refl, refl)) y;
+                  total = rw (q, g) (omega (arith, s));
+                  closes = λ row′ up′ span′ z t o.
+                      let e : getD span′ u 0 ≡ at - u = z u l .2 (rw q (off fs ns row up v v A y (omega arith))) ∙ rw es (getD-set-same span u (at - u) 0 ls) in
+                      k row′ up′ span′
+                      (λ j m. let z′ = z j m in (z′ .0, z′ .1, λ n. z′ .2 (n .1) ∙ rw es (getD-set-other span u j (at - u) 0 (λ a. n .0 (a ∙ q)))))
+                      (rw (← q) e, rw (q, p, g) at t, rw (q, g) at o);
+                };
+              }
 
 -- ------------------------------------------------------------------ what the rows bear
 pub borne-more : (row code mark count : List ℕ) (i : ℕ) (code′ mark′ kids : List ℕ) → Borne row code mark count i code′ mark′ kids

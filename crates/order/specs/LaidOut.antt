@@ -4,6 +4,7 @@ use mathlib.Core.List.{List}
 use Prim.Native.Nat.{ℕ, suc, _+_, _≤_, _<_}
 use lib.ListN.{length, getD}
 use Rattle.meaning.specs.Tree.{Forest, bare, tree, size}
+use Rattle.rows.specs.Rows.{noRow}
 use Rattle.order.specs.Links.{forestAt, Finite}
 
 -- from row `at` on the rows are those of the forest, whose brothers lie below row u
@@ -12,22 +13,20 @@ Shows row up span u at bare = Unit {0}
 Shows row up span u at (tree i k r) =
     (getD row at 0 ≡ i) × (getD up at 0 ≡ u) × (getD span at 0 ≡ suc (size k)) × Shows row up span at (suc at) k × Shows row up span u (suc at + size k) r
 
--- there is room for the forest at c from row `at` on
-pub record Roomy (fs ns : List ℕ) (c u at : ℕ) (row up span : List ℕ) : Type 0 where
+-- there is room for the rows of the forest at c
+pub record Roomy (fs ns : List ℕ) (c : ℕ) (row up span : List ℕ) : Type 0 where
   pub firsts : length ns ≤ length fs
   pub finite : Finite fs ns c
   pub short : length ns < 65536
-  pub low : u < 65536
-  pub last : at + size (forestAt fs ns c) < 65536
-  pub rows : at + size (forestAt fs ns c) ≤ length row
-  pub ups : at + size (forestAt fs ns c) ≤ length up
-  pub spans : at + size (forestAt fs ns c) ≤ length span
+  pub few : size (forestAt fs ns c) ≤ noRow
+  pub rows : size (forestAt fs ns c) ≤ length row
+  pub ups : size (forestAt fs ns c) ≤ length up
+  pub spans : size (forestAt fs ns c) ≤ length span
 
--- it was laid out there, rows before `at` are kept, and r is the first row behind it
-pub record Laid (fs ns : List ℕ) (c u at : ℕ) (row up span row′ up′ span′ : List ℕ) (r : ℕ) : Type 0 where
-  pub end : r ≡ at + size (forestAt fs ns c)
-  pub shows : Shows row′ up′ span′ u at (forestAt fs ns c)
-  pub kept : (j : ℕ) → j < at → (getD row′ j 0 ≡ getD row j 0) × (getD up′ j 0 ≡ getD up j 0) × (getD span′ j 0 ≡ getD span j 0)
+-- it was laid out as the first r rows
+pub record Laid (fs ns : List ℕ) (c : ℕ) (row up span row′ up′ span′ : List ℕ) (r : ℕ) : Type 0 where
+  pub end : r ≡ size (forestAt fs ns c)
+  pub shows : Shows row′ up′ span′ noRow 0 (forestAt fs ns c)
   pub rows : length row′ ≡ length row
   pub ups : length up′ ≡ length up
   pub spans : length span′ ≡ length span

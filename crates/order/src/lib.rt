@@ -257,33 +257,42 @@ fn in_order(first: &mut [u16], next: &mut [u16], key: &[u64], c: usize) -> usize
 
 // ---------------------------------------------------------------- rows in image order
 
-// Lays the forest at c out from row `at` on, its brothers below row u, and returns the first row behind it. Only children are laid out by a call.
+// The parent of a row at the top.
+const NO_ROW: usize = 65535;
+
+// Lays the forest at c out as rows, and returns how many there are. It goes down to the first child; where there is none, all below row u is laid
+// out, and it goes on to u's next brother. The rows' own parents lead back up, so no call is open for a row.
 fn lay(
     first: &[u16],
     next: &[u16],
     c: usize,
-    u: usize,
-    at: usize,
     row: &mut [u16],
     up: &mut [u16],
     span: &mut [u16],
 ) -> usize
-    requires { ⌜ Roomy (now first) (now next) c u at (now row) (now up) (now span) ⌝ }
-    ensures { λ r. ⌜ Laid (now (first .entry)) (now (next .entry)) c u at (now (row .entry)) (now (up .entry)) (now (span .entry)) (now (row .exit)) (now (up .exit)) (now (span .exit)) r ⌝ }
+    requires { ⌜ Roomy (now first) (now next) c (now row) (now up) (now span) ⌝ }
+    ensures { λ r. ⌜ Laid (now (first .entry)) (now (next .entry)) c (now (row .entry)) (now (up .entry)) (now (span .entry)) (now (row .exit)) (now (up .exit)) (now (span .exit)) r ⌝ }
 {
     let n = next.len();
-    let mut d = c;
-    let mut i = at;
-    while d < n {
-        set_link(row, i, d);
-        set_link(up, i, u);
-        let k = link(first, d);
-        let e = lay(first, next, k, i, i + 1, row, up, span);
-        set_link(span, i, e - i);
-        d = link(next, d);
-        i = e;
+    let mut at: usize = 0;
+    let mut u = NO_ROW;
+    let mut x = c;
+    loop {
+        if x < n {
+            set_link(row, at, x);
+            set_link(up, at, u);
+            x = link(first, x);
+            u = at;
+            at += 1;
+            continue;
+        }
+        if u == NO_ROW {
+            return at;
+        }
+        set_link(span, u, at - u);
+        x = link(next, link(row, u));
+        u = link(up, u);
     }
-    i
 }
 
 // Gives each of the n rows the label code, the mark and the number of children of its row in the table.
@@ -337,6 +346,6 @@ pub fn image_rows(
     make_keys(code, mark, count, n, key);
     let top = link(first, n);
     let q = in_order(first, next, key, top);
-    lay(first, next, q, 65535, 0, row, up, span);
+    lay(first, next, q, row, up, span);
     bear(row, code, mark, count, n, out_code, out_mark, kids);
 }
