@@ -10,8 +10,8 @@ ghost use Rattle.meaning.specs.Number.{largestLabel};
 ghost use Rattle.meaning.specs.Tree.{Takes};
 ghost use Rattle.meaning.specs.Matching.{parentOk, goodTable, docOf, bitAt, MatchTable, tableBytes};
 ghost use Rattle.bits.specs.Bits.{bitOf, Packed, OnlyRow};
-ghost use Rattle.rows.specs.Rows.{treeRows};
-ghost use Rattle.matching.specs.Table.{Suits, Parents, FromByte, ParentOf, Added, RowUpTo, RowIs, RowClear, RowInside, Query, Lies, Ready};
+ghost use Rattle.rows.specs.Rows.{shape, Holds, treeRows};
+ghost use Rattle.matching.specs.Table.{Suits, Parents, FromByte, ParentOf, Added, RowUpTo, RowIs, RowClear, RowInside, Query, Lies, Needs, Ready};
 ghost use Rattle.matching.specs.Pair.{Bears, FirstRow, Asked, OneWay};
 
 // Whether node x may have this parent number and this label.
@@ -193,9 +193,25 @@ fn parent_at(parents: &[u32], x: usize) -> usize
     parents[x] as usize
 }
 
-// Fills row u, when the rows behind it are filled: the nodes whose label fits, less those that lack a child for some child of u.
+// Whether a child of query node u lies nowhere. n, the number of rows, is for the contract alone.
+fn child_nowhere(w: &[u8], span: &[u16], n: usize, u: usize) -> bool
+    requires { ⌜ (tableBytes ≤ length (now w)) × (n ≤ 256) × (n ≤ length (now span)) × Holds (now span) 0 n (shape (now span) n) × (u < n) ⌝ }
+    ensures { λ r. ⌜ (r ≡ true → (c : ℕ) × (u < c) × (c < n) × Needs (now (span .entry)) u c × RowClear (now (w .entry)) c) ⌝ }
+{
+    let end = u + link_at(span, u);
+    let mut c = u + 1;
+    while c < end {
+        if bits::row_clear(w, c) {
+            return true;
+        }
+        c += link_at(span, c);
+    }
+    false
+}
+
+// Fills the clear row u: the nodes whose label fits, less those that lack a child for some child of u.
 // Where the row is empty nothing is left to take away. n, the number of rows, is for the contract alone.
-fn match_row(
+fn fill_row(
     w: &mut [u8],
     code: &[u32],
     span: &[u16],
@@ -217,6 +233,25 @@ fn match_row(
         keep_parents(w, u, c, parents);
         c += link_at(span, c);
     }
+}
+
+// Fills row u, when the rows behind it are filled. Where a child of u lies nowhere u lies nowhere, and the row stays clear.
+fn match_row(
+    w: &mut [u8],
+    code: &[u32],
+    span: &[u16],
+    n: usize,
+    u: usize,
+    parents: &[u32],
+    labels: &[u32],
+)
+    requires { ⌜ Ready (now w) (now code) (now span) (now parents) (now labels) n u ⌝ }
+    ensures { λ _. ⌜ RowIs (now (w .entry)) u (Lies (now (code .entry)) (now (span .entry)) (now (parents .entry)) (now (labels .entry)) u) (now (w .exit)) ⌝ }
+{
+    if child_nowhere(w, span, n, u) {
+        return;
+    }
+    fill_row(w, code, span, n, u, parents, labels);
 }
 
 // Fills the match table of the n rows of a query on a document, from the last query node to the first. No rows are empty: all bits stay clear.
