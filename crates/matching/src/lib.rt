@@ -9,7 +9,7 @@ ghost use lib.Dec.{leb, eqb};
 ghost use Rattle.meaning.specs.Number.{largestLabel};
 ghost use Rattle.meaning.specs.Tree.{Takes};
 ghost use Rattle.meaning.specs.Matching.{parentOk, goodTable, docOf, bitAt, MatchTable, tableBytes};
-ghost use Rattle.bits.specs.Bits.{bitOf, Packed, OnlyRow};
+ghost use Rattle.bits.specs.Bits.{bitOf, Sifted, OnlyRow};
 ghost use Rattle.rows.specs.Rows.{shape, Holds, treeRows};
 ghost use Rattle.matching.specs.Table.{Suits, Parents, FromByte, ParentOf, Added, RowUpTo, RowIs, RowClear, RowInside, Query, Lies, Needs, Ready};
 ghost use Rattle.matching.specs.Pair.{Bears, FirstRow, Asked, OneWay};
@@ -65,12 +65,12 @@ fn fits_at(code: u32, labels: &[u32], x: usize) -> bool
 // Which of eight nodes bear a label, as the bits of a byte.
 fn same_byte(label: u32, labels: &[u32], from: usize) -> u8
     requires { ⌜ (from < 1024) × (from + 8 ≤ length (now labels)) ⌝ }
-    ensures { λ r. ⌜ Packed (λ k. eqb (getD (now (labels .entry)) (from + k) 0) label) 8 r ⌝ }
+    ensures { λ r. ⌜ Sifted 255 (λ k. eqb (getD (now (labels .entry)) (from + k) 0) label) 8 r ⌝ }
 {
-    let mut b: u8 = 0;
+    let mut b: u8 = 255;
     let mut k: usize = 0;
     while k < 8 {
-        b = bits::with_bit(b, k, labels[from + k] == label);
+        b = bits::keep_bit(b, k, labels[from + k] == label);
         k += 1;
     }
     b
