@@ -15,7 +15,7 @@ ghost use Rattle.matching.specs.Table.{Suits, Parents, FromByte, ParentO
 ghost use Rattle.matching.specs.Pair.{Bears, FirstRow, Asked, OneWay};
 
 // Whether node x may have this parent number and this label.
-fn good_row(x: usize, parent: u32, label: u32) -> bool
+fn good_row(x: u32, parent: u32, label: u32) -> bool
     ensures { λ r. ⌜ r ≡ (parentOk x parent && leb label largestLabel) ⌝ }
 {
     if 65535 < label {
@@ -24,10 +24,21 @@ fn good_row(x: usize, parent: u32, label: u32) -> bool
     if x == 0 {
         return parent == 0;
     }
-    (parent as usize) < x
+    parent < x
+}
+
+// Whether the rows before row x and row x itself are good.
+fn still_good(good: bool, x: u32, parent: u32, label: u32) -> bool
+    ensures { λ r. ⌜ r ≡ (good && (parentOk x parent && leb label largestLabel)) ⌝ }
+{
+    if !good_row(x, parent, label) {
+        return false;
+    }
+    good
 }
 
 // "A table is two lists of equal length, 1 to 1,024 .. Node 0 has parent 0; every other parent number is smaller than the node's own."
+// It reads every row, behind a bad one too, and compares 32-bit numbers: so the compiler makes vector instructions of the loop.
 pub fn good_table(parents: &[u32], labels: &[u32]) -> bool
     ensures { λ r. ⌜ r ≡ goodTable (now (parents .entry)) (now (labels .entry)) ⌝ }
 {
@@ -41,14 +52,13 @@ pub fn good_table(parents: &[u32], labels: &[u32]) -> bool
     if labels.len() != n {
         return false;
     }
+    let mut good = true;
     let mut x: usize = 0;
     while x < n {
-        if !good_row(x, parents[x], labels[x]) {
-            return false;
-        }
+        good = still_good(good, x as u32, parents[x], labels[x]);
         x += 1;
     }
-    true
+    good
 }
 
 // Whether the label of node x fits a label code ("0 wildcard, else L+1").
