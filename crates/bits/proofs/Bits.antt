@@ -1,7 +1,7 @@
 -- Laws of bits: what an or, an and, a shift and a store do to the bits of a byte and of a row.
 use mathlib.Core.Path.{_≡_, refl, sym, ap, _∙_}
 use mathlib.Core.List.{List}
-use mathlib.Core.Bool.{Bool, true, false, _||_, _&&_}
+use mathlib.Core.Bool.{Bool, true, false, not, cond, _&&_}
 use Prim.Native.Nat.{ℕ, zero, suc, _+_, _-_, _*_, _/_, _%_, _^_, _≤_, _<_}
 use native.Mathlib.Omega.{arith}
 use native.Mathlib.Nat.{div-eq-of-lt, one-mul, zero-div}
@@ -11,8 +11,9 @@ use lib.Seq.{getD-set-same, getD-set-other}
 use lib.Dec.{eqb, lit<}
 use lib.Pow.{pow-lt, pow-add, shl-shr, shl-exact, shr-shr}
 use lib.Bits.{bitAnd, bitOr, and-mask, and-shr, and-mod, or-shr, or-mod, or-zero-r}
+use borrow.Author.Tests.{eq-eqb, ne-eqb, eqb-true, not-true}
 use Rattle.meaning.specs.Matching.{bitAt}
-use Rattle.bits.specs.Bits.{bitOf, BitPut, OnlyRow, BitSet, Packed, Met, Cleared}
+use Rattle.bits.specs.Bits.{bitOf, BitKept, OnlyRow, BitSet, Sifted, Met, Cleared}
 
 -- ------------------------------------------------------------------ bits of a byte
 -- (n >> ..) & 1
@@ -64,12 +65,6 @@ unfolding bitOf
 set-other b k j ne =
     ap (λ (n : ℕ). eqb n 1) (or-bit b (2 ^ k) j ∙ ap (bitOr (b / 2 ^ j % 2)) (pow-other k j ne) ∙ or-zero-r (b / 2 ^ j % 2))
 
-pub put-on : (b k : ℕ) (on : Bool) → k < 8 → on ≡ true → BitPut b k on (bitOr b (1 * 2 ^ k % 256))
-put-on b k on l e = rw (one-shl k l, e) (record { here = set-here b k; other = λ j ne. set-other b k j ne })
-
-pub put-off : (b k : ℕ) (on : Bool) → on ≡ false → BitPut b k on b
-put-off b k on e = rw e (record { here = refl; other = λ j ne. refl })
-
 -- a & b has the bits that both have
 and-of : (a b k : ℕ) → bitOf (bitAnd a b) k ≡ (bitOf a k && bitOf b k)
 unfolding bitOf
@@ -89,20 +84,70 @@ pub zero-bit : (k : ℕ) → bitOf 0 k ≡ false
 unfolding bitOf
 zero-bit k = rw (zero-div (2 ^ k))
 
--- a byte filled from its lowest bit up
-pub packed-none : (g : ℕ → Bool) → Packed g 0 0
-packed-none g = record { low = λ j l. absurd (omega arith); high = λ j l. zero-bit j }
+-- ------------------------------------------------------------------ a byte sifted bit by bit
+abbrev allTo : ℕ → (ℕ → Bool) → Bool
+allTo zero f = true
+allTo (suc n) f = f n && allTo n f
 
-pub packed-more : (g : ℕ → Bool) (k b r : ℕ) → Packed g k b → BitPut b k (g k) r → Packed g (k + 1) r
-packed-more g k b r t p = record { low = λ j l. go j l (ℕ-discrete j k); high = λ j l. p .other j (λ e. omega arith) ∙ t .high j (omega arith) }
+both : (x y : Bool) → (x && y) ≡ true → (x ≡ true) × (y ≡ true)
+both true y e = (refl, e)
+both false y e = let z : _≡_ {A = ℕ} 0 1 = cc in absurd (omega arith)
+
+all-to : (n : ℕ) (f : ℕ → Bool) → allTo n f ≡ true → (k : ℕ) → k < n → f k ≡ true
+all-to zero f e k l = absurd (omega arith)
+all-to (suc n) f e k l = go (ℕ-discrete k n) (λ lower. all-to n f (both (f n) (allTo n f) e .1) k lower)
   where
-    or-false : (x y : Bool) → y ≡ false → (x || y) ≡ x
-    or-false true y e = refl
-    or-false false y e = e
+    go : Dec (k ≡ n) → (k < n → f k ≡ true) → f k ≡ true
+    go (yes q) rest = rw q (both (f n) (allTo n f) e .0)
+    go (no q) rest = rest (omega arith)
 
-    go : (j : ℕ) → j < k + 1 → Dec (j ≡ k) → bitOf r j ≡ g j
-    go j l (yes e) = rw e (p .here ∙ or-false (g k) (bitOf b k) (t .high k (omega arith)))
-    go j l (no e) = p .other j e ∙ t .low j (omega arith)
+-- bit j of the byte in which bit k alone is clear, for all of them at once
+abbrev masked : ℕ → ℕ → Bool
+masked k j = cond (eqb j k) (not (bitOf (255 - 2 ^ k) j)) (bitOf (255 - 2 ^ k) j)
+
+all-masked : allTo 8 (λ k. allTo 8 (masked k)) ≡ true
+unfolding bitOf
+all-masked = refl
+
+mask-at : (k j : ℕ) → k < 8 → j < 8 → masked k j ≡ true
+mask-at k j lk lj = all-to 8 (masked k) (all-to 8 (λ i. allTo 8 (masked i)) all-masked k lk) j lj
+
+mask-here : (k : ℕ) → k < 8 → bitOf (255 - 2 ^ k) k ≡ false
+mask-here k l = not-true (bitOf (255 - 2 ^ k) k) (rw (eq-eqb k k refl) at (mask-at k k l l))
+
+mask-other : (k j : ℕ) → k < 8 → j < 8 → (j ≡ k → ⊥) → bitOf (255 - 2 ^ k) j ≡ true
+mask-other k j lk lj ne = rw (ne-eqb j k ne) at (mask-at k j lk lj)
+
+and-true : (x : Bool) → (x && true) ≡ x
+and-true true = refl
+and-true false = refl
+
+and-false : (x : Bool) → (x && false) ≡ false
+and-false true = refl
+and-false false = refl
+
+-- b & (255 - (1 << k)): bit k is cleared, and every other bit is as it was
+pub keep-off : (b k : ℕ) (on : Bool) → k < 8 → on ≡ false → BitKept b k on (bitAnd b (255 - 1 * 2 ^ k % 256))
+keep-off b k on l e =
+    rw (one-shl k l, e)
+    (record {
+      here = rw (and-of b (255 - 2 ^ k) k, mask-here k l);
+      other = λ j lj ne. rw (and-of b (255 - 2 ^ k) j, mask-other k j l lj ne) (and-true (bitOf b j));
+    })
+
+pub keep-on : (b k : ℕ) (on : Bool) → on ≡ true → BitKept b k on b
+keep-on b k on e = rw e (record { here = sym (and-true (bitOf b k)); other = λ j lj ne. refl })
+
+pub sifted-none : (b : ℕ) (g : ℕ → Bool) → Sifted b g 0 b
+sifted-none b g = record { low = λ j l. absurd (omega arith); high = λ j l m. refl }
+
+pub sifted-more : (b : ℕ) (g : ℕ → Bool) (k r d : ℕ) → k < 8 → Sifted b g k r → BitKept r k (g k) d → Sifted b g (k + 1) d
+sifted-more b g k r d l t p =
+    record { low = λ j lj. go j lj (ℕ-discrete j k); high = λ j lj m. p .other j m (λ e. omega arith) ∙ t .high j (omega arith) m }
+  where
+    go : (j : ℕ) → j < k + 1 → Dec (j ≡ k) → bitOf d j ≡ (bitOf b j && g j)
+    go j lj (yes e) = rw e (p .here ∙ ap (λ (x : Bool). x && g k) (t .high k (omega arith) l))
+    go j lj (no e) = p .other j (omega arith) e ∙ t .low j (omega arith)
 
 -- the byte in which all eight bits are set
 pub all-bits : (k : ℕ) → k < 8 → bitOf 255 k ≡ true
@@ -204,21 +249,28 @@ met-more w u h b i o l lw f m = go (rw (m .only .same) lw)
             let bv : bitAt w u v ≡ bitOf (getD b (128 * u + i) 0) (v % 8) = sym (m .behind v (omega arith) (omega arith)) ∙ rw (bit-byte b u v, q) in
             store-here b u i o l lb v q ∙ rw bv (rw z at (f (v % 8) (omega arith)))
 
--- the bits of a byte that have their flags
+-- a byte without bits keeps none
 pub flagged-none : (b : ℕ) (g : ℕ → Bool) → b ≡ 0 → (k : ℕ) → k < 8 → bitOf 0 k ≡ (bitOf b k && g k)
 flagged-none b g e k l = rw (e, zero-bit k)
 
-pub flagged-some : (b f : ℕ) (g : ℕ → Bool) → Packed g 8 f → (k : ℕ) → k < 8 → bitOf (bitAnd b f) k ≡ (bitOf b k && g k)
-flagged-some b f g p k l = rw (← p .low k l) (and-of b f k)
+-- a byte more is 0, or it is not
+pub clear-not : (clear : Bool) (b : ℕ) → (b ≡ 0 → ⊥) → false ≡ (clear && eqb b 0)
+clear-not clear b ne = sym (rw (ne-eqb b 0 ne) (and-false clear))
 
--- bytes that are 0, one more of them
-pub more-zero : (w : List ℕ) (u e : ℕ) → ((i : ℕ) → i < e → getD w (128 * u + i) 0 ≡ 0) → getD w (128 * u + e) 0 ≡ 0
-    → (i : ℕ) → i < e + 1 → getD w (128 * u + i) 0 ≡ 0
-more-zero w u e h z i l = go (ℕ-discrete i e)
+pub clear-too : (clear : Bool) (b : ℕ) → b ≡ 0 → clear ≡ (clear && eqb b 0)
+clear-too clear b e = sym (rw (eq-eqb b 0 e) (and-true clear))
+
+-- bytes that are 0 as long as `clear` says so, one more of them
+pub more-clear : (w : List ℕ) (u e : ℕ) (clear d : Bool) → (clear ≡ true → (i : ℕ) → i < e → getD w (128 * u + i) 0 ≡ 0) → d ≡ (clear && eqb (getD w (128 * u + e) 0) 0)
+    → d ≡ true → (i : ℕ) → i < e + 1 → getD w (128 * u + i) 0 ≡ 0
+more-clear w u e clear d h q t i l = go (ℕ-discrete i e)
   where
+    y : (clear ≡ true) × (eqb (getD w (128 * u + e) 0) 0 ≡ true)
+    y = both clear (eqb (getD w (128 * u + e) 0) 0) (sym q ∙ t)
+
     go : Dec (i ≡ e) → getD w (128 * u + i) 0 ≡ 0
-    go (yes q) = rw q z
-    go (no q) = h i (omega arith)
+    go (yes z) = rw z (eqb-true (getD w (128 * u + e) 0) 0 (y .1))
+    go (no z) = h (y .0) i (omega arith)
 
 -- bytes that are 0 have no bits
 pub no-bits : (w : List ℕ) (u e : ℕ) → ((i : ℕ) → i < e → getD w (128 * u + i) 0 ≡ 0) → (v : ℕ) → v < 8 * e → bitAt w u v ≡ false

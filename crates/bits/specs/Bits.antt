@@ -2,7 +2,7 @@
 -- `bitAt` of meaning reads them; here is what the functions on rows leave behind.
 use mathlib.Core.Path.{_≡_}
 use mathlib.Core.List.{List}
-use mathlib.Core.Bool.{Bool, true, false, _||_, _&&_}
+use mathlib.Core.Bool.{Bool, true, false, _&&_}
 use Prim.Native.Nat.{ℕ, _/_, _%_, _^_, _≤_, _<_}
 use lib.ListN.{length, getD}
 use lib.Dec.{eqb}
@@ -12,10 +12,10 @@ use Rattle.meaning.specs.Matching.{bitAt}
 unfoldable pub bitOf : ℕ → ℕ → Bool
 bitOf b k = eqb (b / 2 ^ k % 2) 1
 
--- r is b, with bit k set if `on` says so
-pub record BitPut (b k : ℕ) (on : Bool) (r : ℕ) : Type 0 where
-  pub here : bitOf r k ≡ (on || bitOf b k)
-  pub other : (j : ℕ) → (j ≡ k → ⊥) → bitOf r j ≡ bitOf b j
+-- r is b, with bit k cleared unless `on` says so
+pub record BitKept (b k : ℕ) (on : Bool) (r : ℕ) : Type 0 where
+  pub here : bitOf r k ≡ (bitOf b k && on)
+  pub other : (j : ℕ) → j < 8 → (j ≡ k → ⊥) → bitOf r j ≡ bitOf b j
 
 -- no byte outside row u changed
 pub record OnlyRow (w : List ℕ) (u : ℕ) (b : List ℕ) : Type 0 where
@@ -28,10 +28,10 @@ pub record BitSet (w : List ℕ) (u v : ℕ) (b : List ℕ) : Type 0 where
   pub here : bitAt b u v ≡ true
   pub other : (x : ℕ) → x < 1024 → (x ≡ v → ⊥) → bitAt b u x ≡ bitAt w u x
 
--- the byte b has the bits that g gives, up to bit k, and no others
-pub record Packed (g : ℕ → Bool) (k b : ℕ) : Type 0 where
-  pub low : (j : ℕ) → j < k → bitOf b j ≡ g j
-  pub high : (j : ℕ) → k ≤ j → bitOf b j ≡ false
+-- up to bit k the byte r has the bits of b that g keeps, from there on those of b
+pub record Sifted (b : ℕ) (g : ℕ → Bool) (k r : ℕ) : Type 0 where
+  pub low : (j : ℕ) → j < k → bitOf r j ≡ (bitOf b j && g j)
+  pub high : (j : ℕ) → k ≤ j → j < 8 → bitOf r j ≡ bitOf b j
 
 -- row u of b has the bits of row u of w whose flags are 1, up to bit e; behind it row u is as it was
 pub record Met (w : List ℕ) (u : ℕ) (flags : List ℕ) (e : ℕ) (b : List ℕ) : Type 0 where

@@ -6,17 +6,17 @@ ghost use Prim.Native.Nat.{ℕ, _+_, _*_, _≤_, _<_};
 ghost use lib.ListN.{length, getD};
 ghost use lib.Dec.{eqb};
 ghost use Rattle.meaning.specs.Matching.{bitAt};
-ghost use Rattle.bits.specs.Bits.{bitOf, BitPut, BitSet, Packed, Met, Cleared};
+ghost use Rattle.bits.specs.Bits.{bitOf, BitKept, BitSet, Met, Cleared};
 
-// The byte with bit k set if `on` says so.
-pub fn with_bit(b: u8, k: usize, on: bool) -> u8
+// The byte with bit k cleared unless `on` says so. Eight of these make a few vector instructions; bits set one by one do not.
+pub fn keep_bit(b: u8, k: usize, on: bool) -> u8
     requires { ⌜ k < 8 ⌝ }
-    ensures { λ r. ⌜ BitPut b k on r ⌝ }
+    ensures { λ r. ⌜ BitKept b k on r ⌝ }
 {
     if on {
-        return b | (1 << k);
+        return b;
     }
-    b
+    b & (255 - (1 << k))
 }
 
 // Whether bit v of row u is set.
@@ -39,20 +39,6 @@ pub fn set_bit(w: &mut [u8], u: usize, v: usize)
     w[i] = w[i] | (1 << k);
 }
 
-// Eight flags as the bits of a byte.
-fn flag_byte(flags: &[u8], from: usize) -> u8
-    requires { ⌜ (from < 1024) × (from + 8 ≤ length (now flags)) ⌝ }
-    ensures { λ r. ⌜ Packed (λ k. eqb (getD (now (flags .entry)) (from + k) 0) 1) 8 r ⌝ }
-{
-    let mut b: u8 = 0;
-    let mut k: usize = 0;
-    while k < 8 {
-        b = with_bit(b, k, flags[from + k] == 1);
-        k += 1;
-    }
-    b
-}
-
 // The bits of b whose flags are 1. Where no bit is set no flag is read.
 fn flagged(b: u8, flags: &[u8], from: usize) -> u8
     requires { ⌜ (from < 1024) × (from + 8 ≤ length (now flags)) ⌝ }
@@ -61,7 +47,13 @@ fn flagged(b: u8, flags: &[u8], from: usize) -> u8
     if b == 0 {
         return 0;
     }
-    b & flag_byte(flags, from)
+    let mut r = b;
+    let mut k: usize = 0;
+    while k < 8 {
+        r = keep_bit(r, k, flags[from + k] == 1);
+        k += 1;
+    }
+    r
 }
 
 // Takes from the first bytes of row u the bits whose flags are not 1.
@@ -77,20 +69,29 @@ pub fn meet(w: &mut [u8], u: usize, flags: &[u8], bytes: usize)
     }
 }
 
-// Whether row u has no bit set.
+// Whether the bytes up to here are 0, with one byte more.
+fn still_clear(clear: bool, b: u8) -> bool
+    ensures { λ r. ⌜ r ≡ (clear && eqb b 0) ⌝ }
+{
+    if b != 0 {
+        return false;
+    }
+    clear
+}
+
+// Whether row u has no bit set. It reads the whole row: the compiler makes a few vector instructions of it.
 pub fn row_clear(w: &[u8], u: usize) -> bool
     requires { ⌜ (u < 256) × (128 * u + 128 ≤ length (now w)) ⌝ }
     ensures { λ r. ⌜ (r ≡ true → (v : ℕ) → v < 1024 → bitAt (now (w .entry)) u v ≡ false) ⌝ }
 {
     let at = 128 * u;
+    let mut clear = true;
     let mut i: usize = 0;
     while i < 128 {
-        if w[at + i] != 0 {
-            return false;
-        }
+        clear = still_clear(clear, w[at + i]);
         i += 1;
     }
-    true
+    clear
 }
 
 // Clears the 256 rows. A plain loop of its own: the compiler makes a block fill of it.

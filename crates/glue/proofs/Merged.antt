@@ -1,5 +1,5 @@
 -- One row stands for two, in place: the links and labels of the merged table, once the loops are done.
-use mathlib.Core.Path.{_≡_, refl, sym, ap, _∙_}
+use mathlib.Core.Path.{_≡_, refl, sym, ap, subst, _∙_}
 use mathlib.Core.Logic.{_≢_, by-cases}
 use mathlib.Core.Option.{Option, none, some}
 use mathlib.Core.List.{List, map}
@@ -10,7 +10,7 @@ use lib.ListN.{length, getD, set, length-map}
 use lib.Seq.{getD-set-same, getD-set-other}
 use Rattle.meaning.specs.Basics.{mapped}
 use Rattle.meaning.specs.TreeQuery.{Row, node, Table, at}
-use Rattle.meaning.specs.Gluing.{without, moved, relink, merged}
+use Rattle.meaning.specs.Gluing.{without, move, moved, relink, merged}
 use Rattle.rows.specs.Rows.{labOf, noRow}
 use Rattle.theory.proofs.Look.{pick-yes, pick-no, look-set-same, look-set-other, look-map}
 use Rattle.theory.proofs.Merge.{back, back-low, back-high, move-hit, moved-low, moved-high, at-without, length-without, length-merged}
@@ -19,6 +19,13 @@ use Rattle.glue.proofs.Codes.{relinked-some, length-table, at-table, ta
 use Rattle.glue.proofs.Sweeping.{here-done}
 
 -- ------------------------------------------------------------------ numbers before and after
+pub moved-falls : (x y i j : ℕ) → j ≡ move x y i → y < j → j - 1 ≡ moved x y i
+moved-falls x y i j e lt = rw e (sym (pick-yes (decLt y (move x y i)) (move x y i - 1) (move x y i) (subst (λ z. y < z) e lt)))
+
+pub moved-stays : (x y i j : ℕ) → j ≡ move x y i → j ≤ y → j ≡ moved x y i
+moved-stays x y i j e le =
+    rw e (sym (pick-no (decLt y (move x y i)) (move x y i - 1) (move x y i) (λ gt. let z = subst (λ k. k ≤ y) e le in omega arith)))
+
 pub hit-high : (x y i : ℕ) → i ≡ y → y < x → x - 1 ≡ moved x y i
 hit-high x y i e lt = rw (e, move-hit x y) (sym (pick-yes (decLt y x) (x - 1) x lt))
 

@@ -3,7 +3,7 @@ ghost use mathlib.Core.Path.{_≡_};
 ghost use mathlib.Core.Option.{some};
 ghost use Prim.Native.Nat.{ℕ, _+_, _-_, _≤_, _<_};
 ghost use lib.ListN.{length, getD};
-ghost use Rattle.meaning.specs.Gluing.{meet, moved, merged, orElse};
+ghost use Rattle.meaning.specs.Gluing.{meet, move, moved, merged, orElse};
 ghost use Rattle.rows.specs.Rows.{labOf};
 ghost use Rattle.glue.specs.Rows.{parentOf, table, metOf, Relinked, Swept};
 
@@ -23,20 +23,25 @@ pub fn wide(p: u16) -> usize
     p as usize
 }
 
+// x stands for y.
+fn stand_in(x: usize, y: usize, i: usize) -> usize
+    ensures { λ r. ⌜ r ≡ move x y i ⌝ }
+{
+    if i == y {
+        return x;
+    }
+    i
+}
+
 // The number of row i once row y is out and x stands for it.
 pub fn renumber(x: usize, y: usize, i: usize) -> usize
     ensures { λ r. ⌜ r ≡ moved x y i ⌝ }
 {
-    if i == y {
-        if y < x {
-            return x - 1;
-        }
-        return x;
+    let j = stand_in(x, y, i);
+    if y < j {
+        return j - 1;
     }
-    if y < i {
-        return i - 1;
-    }
-    i
+    j
 }
 
 // A link, renumbered. All of it in u16, and each way out a choice between numbers: a loop of it then takes eight links at a time.

@@ -14,10 +14,10 @@ use Rattle.meaning.specs.Document.{Doc, Child}
 use Rattle.meaning.specs.Tree.{Forest, bare, tree, Tag, Lays}
 use Rattle.meaning.specs.Matching.{goodTable, docOf, bitAt, OnLabel, LaysAt, CanLie, MatchTable, tableBytes}
 use Rattle.bits.specs.Bits.{OnlyRow, Cleared}
-use Rattle.bits.proofs.Bits.{other-row, no-bits}
+use Rattle.bits.proofs.Bits.{only-refl, other-row, no-bits}
 use Rattle.rows.specs.Rows.{tagAt, below, shape, mapT, treeRows, Holds}
 use Rattle.rows.proofs.Rows.{size-holds, holds-first, holds-opens, row-opens, row-node, row-beyond}
-use Rattle.matching.specs.Table.{Suits, ParentOf, RowIs, RowClear, Query, Lies, RowsFrom, Ready, Filled}
+use Rattle.matching.specs.Table.{Suits, ParentOf, RowIs, RowClear, Query, Lies, Needs, RowsFrom, Ready, Filled}
 use Rattle.matching.proofs.Tables.{Good, good-table, in-doc, label-doc, child-doc}
 use Rattle.matching.proofs.Labels.{true-false, iff-same}
 
@@ -56,6 +56,36 @@ module _ (code span P L : List ℕ) where
   -- the next child takes at least one row and ends with the children
   pub partly-next : (u c e : ℕ) (w : List ℕ) → c < e → Partly u c e w → (1 ≤ getD span c 0) × (c + getD span c 0 ≤ e)
   partly-next u c e w l p = let o = holds-opens span c e (p .rest) (p .held) c (omega arith) l in (o .some, o .inside)
+
+-- the children of row u from row c up to row e: where u can be laid they can be laid on children of its place
+pub record Children (span : List ℕ) (u c e : ℕ) : Type 0 where
+  pub rest : Forest ℕ
+  pub held : Holds span c e rest
+  pub laid : (code P L : List ℕ) (v : ℕ) → Lies code span P L u v → Below code span P L rest v
+
+module _ (span : List ℕ) where
+  pub children-start : (n u : ℕ) → Holds span 0 n (shape span n) → u < n → Children span u (u + 1) (u + getD span u 0)
+  children-start n u q l = record { rest = below span u; held = rw (add-one u) (row-opens span n q u l .held); laid = λ code P L v (i, f, y). y }
+
+  pub child-span : (u c e : ℕ) → c < e → Children span u c e → (1 ≤ getD span c 0) × (c + getD span c 0 ≤ e)
+  child-span u c e l p = let o = holds-opens span c e (p .rest) (p .held) c (omega arith) l in (o .some, o .inside)
+
+  pub child-next : (u c e : ℕ) → c < e → Children span u c e → Children span u (c + getD span c 0) e
+  unfolding mapT
+  child-next u c e l p = go (p .rest) (p .held) (p .laid)
+    where
+      go : (F : Forest ℕ) → Holds span c e F → ((code P L : List ℕ) (v : ℕ) → Lies code span P L u v → Below code span P L F v) → Children span u (c + getD span c 0) e
+      go bare h f = absurd (omega arith)
+      go (tree i k t) h f = record { rest = t; held = holds-first span c e i k t h .2; laid = λ code P L v y. f code P L v y .1 }
+
+  pub child-needed : (u c e : ℕ) → c < e → Children span u c e → Needs span u c
+  unfolding mapT
+  child-needed u c e l p code P L v y = go (p .rest) (p .held) (p .laid code P L v y)
+    where
+      go : (F : Forest ℕ) → Holds span c e F → Below code span P L F v → (x : ℕ) × Lies code span P L c x
+      go bare h b = absurd (omega arith)
+      go (tree i k t) h ((x, under, on, lk), _) =
+          let o = holds-first span c e i k t h in (x, (under .inside, rw (h .0) on, rw (o .0) lk))
 
 module _ (code span P L : List ℕ) (good : goodTable P L ≡ true) where
   abbrev G : Good P L
@@ -113,6 +143,16 @@ module _ (code span P L : List ℕ) (good : goodTable P L ≡ true) where
 
   pub partly-clear : (u c e : ℕ) (w : List ℕ) → RowClear w u → Partly code span P L u c e w → (v : ℕ) → v < 1024 → (bitAt w u v ≡ true) ↔ Lies code span P L u v
   partly-clear u c e w z p v lv = (λ t. true-false (sym t ∙ z v lv), λ y. p .left v lv .1 y .0)
+
+  -- a child of row u lies nowhere: row u stays clear
+  pub row-nowhere : (n u c : ℕ) (w : List ℕ) → Ready w code span P L n u → u < c → c < n → Needs span u c → RowClear w c → RowIs w u (Lies code span P L u) w
+  row-nowhere n u c w q l m needs z = record { only = only-refl w u; bits = λ v lv. (λ t. true-false (sym t ∙ q .clear v lv), λ y. nowhere (needs code P L v y)) }
+    where
+      nowhere : {A : Type 0} → (x : ℕ) × Lies code span P L c x → A
+      nowhere (x, y) =
+          let few = G .few in
+          let lx : x < 1024 = let i = in-doc P L G x .0 (y .0) in omega arith in
+          true-false (sym (q .behind c x (omega arith) m lx .1 y) ∙ z x lx)
 
   -- the rows of w behind row u are still there when only row u changed
   pub rows-kept : (n u : ℕ) (w b : List ℕ) → OnlyRow w u b → RowsFrom code span P L n (u + 1) w → RowsFrom code span P L n (u + 1) b

@@ -1,8 +1,8 @@
 -- Laws of the row that a query node starts with: the nodes whose label fits, eight to a byte.
-use mathlib.Core.Path.{_≡_, refl, sym, _∙_}
+use mathlib.Core.Path.{_≡_, refl, sym, ap, _∙_}
 use mathlib.Core.Logic.{_↔_}
 use mathlib.Core.List.{List}
-use mathlib.Core.Bool.{Bool, true, false}
+use mathlib.Core.Bool.{Bool, true, false, _&&_}
 use Prim.Native.Nat.{ℕ, zero, suc, _+_, _-_, _*_, _/_, _%_, _≤_, _<_}
 use native.Mathlib.Omega.{arith}
 use native.Mathlib.Decide.{ℕ-discrete, decLt}
@@ -10,7 +10,7 @@ use lib.ListN.{length, getD, set}
 use lib.Dec.{eqb}
 use borrow.Author.Tests.{eqb-true, eq-eqb, ne-eqb}
 use Rattle.meaning.specs.Matching.{bitAt}
-use Rattle.bits.specs.Bits.{bitOf, OnlyRow, BitSet, Packed}
+use Rattle.bits.specs.Bits.{bitOf, OnlyRow, BitSet, Sifted}
 use Rattle.bits.proofs.Bits.{all-bits, store-here, store-other}
 use Rattle.matching.specs.Table.{Suits, RowUpTo, RowIs, RowClear}
 
@@ -35,9 +35,9 @@ fit-code (suc a) L x l ne =
 pub byte-any : (code : ℕ) (L : List ℕ) (from : ℕ) → from + 8 ≤ length L → code ≡ 0 → (k : ℕ) → k < 8 → (bitOf 255 k ≡ true) ↔ Suits code L (from + k)
 byte-any code L from l e k lk = iff-same (all-bits k lk) (fit-any code L (from + k) (omega arith) e)
 
-pub byte-code : (code : ℕ) (L : List ℕ) (from r : ℕ) → from + 8 ≤ length L → (code ≡ 0 → ⊥) → Packed (λ k. eqb (getD L (from + k) 0) (code - 1)) 8 r
+pub byte-code : (code : ℕ) (L : List ℕ) (from r : ℕ) → from + 8 ≤ length L → (code ≡ 0 → ⊥) → Sifted 255 (λ k. eqb (getD L (from + k) 0) (code - 1)) 8 r
     → (k : ℕ) → k < 8 → (bitOf r k ≡ true) ↔ Suits code L (from + k)
-byte-code code L from r l ne p k lk = iff-same (p .low k lk ∙ swap (getD L (from + k) 0) (code - 1)) (fit-code code L (from + k) (omega arith) ne)
+byte-code code L from r l ne p k lk = iff-same (p .low k lk ∙ ap (λ (x : Bool). x && eqb (getD L (from + k) 0) (code - 1)) (all-bits k lk) ∙ swap (getD L (from + k) 0) (code - 1)) (fit-code code L (from + k) (omega arith) ne)
   where
     swap : (a b : ℕ) → eqb a b ≡ eqb b a
     swap a b = go (ℕ-discrete a b)

@@ -2,18 +2,19 @@
 use mathlib.Core.Path.{_≡_, refl, sym, ap, _∙_}
 use mathlib.Core.Logic.{_↔_}
 use mathlib.Core.List.{List, [], _∷_}
-use mathlib.Core.Bool.{Bool, true, false, _&&_}
+use mathlib.Core.Bool.{Bool, true, false, not, _&&_}
 use Prim.Native.Nat.{ℕ, zero, suc, _+_, _≤_, _<_}
 use native.Mathlib.Omega.{arith}
 use native.Mathlib.Numerals.{add-one}
 use lib.ListN.{length, getD, drop, drop-of-length-le}
 use lib.Seq.{drop-cons}
 use lib.Dec.{leb, eqb, ltb, leb·suc-suc}
-use borrow.Author.Tests.{leb-true, le-leb, lt-leb, eqb-true}
+use borrow.Author.Tests.{leb-true, le-leb, lt-leb, eqb-true, not-true, not-false}
 use Rattle.meaning.specs.Number.{largestLabel}
 use Rattle.meaning.specs.Document.{DocRow, Child, docRow, labelOf, In}
 use Rattle.meaning.specs.Matching.{parentOk, rowsOk, goodTable, docOf}
 use Rattle.matching.specs.Table.{Parents}
+use Rattle.matching.proofs.Labels.{true-false}
 
 both : (a b : Bool) → (a && b) ≡ true → (a ≡ true) × (b ≡ true)
 both true b e = (refl, e)
@@ -30,6 +31,15 @@ row-label x p l h = sym (rw (lt-leb l 65535 h) (no (parentOk x p)))
 and-true : (t : Bool) → (t && true) ≡ t
 and-true true = refl
 and-true false = refl
+
+-- one row more is good, or it is not
+pub good-not : (good r row : Bool) → r ≡ row → not r ≡ true → false ≡ (good && row)
+good-not true r row e t = sym (not-true r t) ∙ e
+good-not false r row e t = refl
+
+pub good-too : (good r row : Bool) → r ≡ row → not r ≡ false → good ≡ (good && row)
+good-too true r row e t = sym (not-false r t) ∙ e
+good-too false r row e t = refl
 
 pub row-root : (x p l : ℕ) → l ≤ 65535 → x ≡ 0 → eqb p 0 ≡ (parentOk x p && leb l largestLabel)
 row-root x p l h e = sym (rw (le-leb l 65535 h, e) (and-true (eqb p 0)))
@@ -48,7 +58,7 @@ rows-length n (p ∷ ps) (l ∷ ls) e = ap suc (rows-length (suc n) ps ls (both 
 
 module _ (P L : List ℕ) where
   -- how far the check has come
-  abbrev pub Checked : ℕ → Type 0
+  abbrev Checked : ℕ → Type 0
   Checked x = goodTable P L ≡ rowsOk x (drop x P) (drop x L)
 
   pub table-none : length P ≡ 0 → false ≡ goodTable P L
@@ -72,21 +82,41 @@ module _ (P L : List ℕ) where
       go true false e = refl
       go false r e = refl
 
-  pub checked-none : (length P ≡ 0 → ⊥) → length P ≤ 1024 → Checked 0
+  checked-none : (length P ≡ 0 → ⊥) → length P ≤ 1024 → Checked 0
   unfolding goodTable
   checked-none a b = let z : 1 ≤ length P = omega arith in rw (le-leb 1 (length P) z, le-leb (length P) 1024 b)
 
-  pub checked-more : (x : ℕ) → x < length P → x < length L → Checked x → (parentOk x (getD P x 0) && leb (getD L x 0) largestLabel) ≡ true → Checked (x + 1)
+  checked-more : (x : ℕ) → x < length P → x < length L → Checked x → (parentOk x (getD P x 0) && leb (getD L x 0) largestLabel) ≡ true → Checked (x + 1)
   unfolding rowsOk
   checked-more x lp ll h e = rw (add-one x) (h ∙ rw (drop-cons P x 0 lp, drop-cons L x 0 ll, e))
 
-  pub checked-bad : (x : ℕ) → x < length P → x < length L → Checked x → (parentOk x (getD P x 0) && leb (getD L x 0) largestLabel) ≡ false → false ≡ goodTable P L
+  checked-bad : (x : ℕ) → x < length P → x < length L → Checked x → (parentOk x (getD P x 0) && leb (getD L x 0) largestLabel) ≡ false → false ≡ goodTable P L
   unfolding rowsOk
   checked-bad x lp ll h e = sym (h ∙ rw (drop-cons P x 0 lp, drop-cons L x 0 ll, e))
 
-  pub checked-all : (x : ℕ) → length P ≤ x → length L ≤ x → Checked x → true ≡ goodTable P L
+  checked-all : (x : ℕ) → length P ≤ x → length L ≤ x → Checked x → true ≡ goodTable P L
   unfolding rowsOk
   checked-all x lp ll h = sym (h ∙ rw (drop-of-length-le P lp, drop-of-length-le L ll))
+
+  -- how far the check has come, bad rows and all: while the rows are good the later ones decide
+  abbrev pub SoFar : Bool → ℕ → Type 0
+  SoFar good x = (good ≡ true → Checked x) × (good ≡ false → false ≡ goodTable P L)
+
+  pub sofar-none : (length P ≡ 0 → ⊥) → length P ≤ 1024 → SoFar true 0
+  sofar-none a b = (λ _. checked-none a b, λ e. true-false e)
+
+  pub sofar-more : (good d : Bool) (x : ℕ) → x < length P → x < length L → SoFar good x → d ≡ (good && (parentOk x (getD P x 0) && leb (getD L x 0) largestLabel))
+      → SoFar d (x + 1)
+  sofar-more false d x lp ll s e = (λ t. true-false (sym t ∙ e), λ _. s .1 refl)
+  sofar-more true d x lp ll s e = go (parentOk x (getD P x 0) && leb (getD L x 0) largestLabel) refl e
+    where
+      go : (row : Bool) → (parentOk x (getD P x 0) && leb (getD L x 0) largestLabel) ≡ row → d ≡ row → SoFar d (x + 1)
+      go true q r = (λ _. checked-more x lp ll (s .0 refl) q, λ t. true-false (sym r ∙ t))
+      go false q r = (λ t. true-false (sym t ∙ r), λ _. checked-bad x lp ll (s .0 refl) q)
+
+  pub sofar-all : (good : Bool) (x : ℕ) → length P ≤ x → length L ≤ x → SoFar good x → good ≡ goodTable P L
+  sofar-all true x lp ll s = checked-all x lp ll (s .0 refl)
+  sofar-all false x lp ll s = s .1 refl
 
 -- ------------------------------------------------------------------ a good table
 doc-length : (P L : List ℕ) → length L ≡ length P → length (docOf P L) ≡ length P

@@ -65,6 +65,10 @@ pub record Query (code span : List ℕ) (n : ℕ) : Type 0 where
 abbrev pub Lies : List ℕ → List ℕ → List ℕ → List ℕ → ℕ → ℕ → Type 0
 Lies code span parents labels u v = LaysAt (docOf parents labels) (tagAt code [] u) (mapT (tagAt code []) (below span u)) v
 
+-- query node u lies nowhere where node c lies nowhere: whatever the codes and the document are, where u lies c does too
+abbrev pub Needs : List ℕ → ℕ → ℕ → Type 0
+Needs span u c = (code parents labels : List ℕ) (v : ℕ) → Lies code span parents labels u v → (x : ℕ) × Lies code span parents labels c x
+
 -- the rows from u on have their bits
 abbrev pub RowsFrom : List ℕ → List ℕ → List ℕ → List ℕ → ℕ → ℕ → List ℕ → Type 0
 RowsFrom code span parents labels n u w =

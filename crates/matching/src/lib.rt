@@ -9,13 +9,13 @@ ghost use lib.Dec.{leb, eqb};
 ghost use Rattle.meaning.specs.Number.{largestLabel};
 ghost use Rattle.meaning.specs.Tree.{Takes};
 ghost use Rattle.meaning.specs.Matching.{parentOk, goodTable, docOf, bitAt, MatchTable, tableBytes};
-ghost use Rattle.bits.specs.Bits.{bitOf, Packed, OnlyRow};
-ghost use Rattle.rows.specs.Rows.{treeRows};
-ghost use Rattle.matching.specs.Table.{Suits, Parents, FromByte, ParentOf, Added, RowUpTo, RowIs, RowClear, RowInside, Query, Lies, Ready};
+ghost use Rattle.bits.specs.Bits.{bitOf, Sifted, OnlyRow};
+ghost use Rattle.rows.specs.Rows.{shape, Holds, treeRows};
+ghost use Rattle.matching.specs.Table.{Suits, Parents, FromByte, ParentOf, Added, RowUpTo, RowIs, RowClear, RowInside, Query, Lies, Needs, Ready};
 ghost use Rattle.matching.specs.Pair.{Bears, FirstRow, Asked, OneWay};
 
 // Whether node x may have this parent number and this label.
-fn good_row(x: usize, parent: u32, label: u32) -> bool
+fn good_row(x: u32, parent: u32, label: u32) -> bool
     ensures { λ r. ⌜ r ≡ (parentOk x parent && leb label largestLabel) ⌝ }
 {
     if 65535 < label {
@@ -24,10 +24,21 @@ fn good_row(x: usize, parent: u32, label: u32) -> bool
     if x == 0 {
         return parent == 0;
     }
-    (parent as usize) < x
+    parent < x
+}
+
+// Whether the rows before row x and row x itself are good.
+fn still_good(good: bool, x: u32, parent: u32, label: u32) -> bool
+    ensures { λ r. ⌜ r ≡ (good && (parentOk x parent && leb label largestLabel)) ⌝ }
+{
+    if !good_row(x, parent, label) {
+        return false;
+    }
+    good
 }
 
 // "A table is two lists of equal length, 1 to 1,024 .. Node 0 has parent 0; every other parent number is smaller than the node's own."
+// It reads every row, behind a bad one too, and compares 32-bit numbers: so the compiler makes vector instructions of the loop.
 pub fn good_table(parents: &[u32], labels: &[u32]) -> bool
     ensures { λ r. ⌜ r ≡ goodTable (now (parents .entry)) (now (labels .entry)) ⌝ }
 {
@@ -41,14 +52,13 @@ pub fn good_table(parents: &[u32], labels: &[u32]) -> bool
     if labels.len() != n {
         return false;
     }
+    let mut good = true;
     let mut x: usize = 0;
     while x < n {
-        if !good_row(x, parents[x], labels[x]) {
-            return false;
-        }
+        good = still_good(good, x as u32, parents[x], labels[x]);
         x += 1;
     }
-    true
+    good
 }
 
 // Whether the label of node x fits a label code ("0 wildcard, else L+1").
@@ -65,12 +75,12 @@ fn fits_at(code: u32, labels: &[u32], x: usize) -> bool
 // Which of eight nodes bear a label, as the bits of a byte.
 fn same_byte(label: u32, labels: &[u32], from: usize) -> u8
     requires { ⌜ (from < 1024) × (from + 8 ≤ length (now labels)) ⌝ }
-    ensures { λ r. ⌜ Packed (λ k. eqb (getD (now (labels .entry)) (from + k) 0) label) 8 r ⌝ }
+    ensures { λ r. ⌜ Sifted 255 (λ k. eqb (getD (now (labels .entry)) (from + k) 0) label) 8 r ⌝ }
 {
-    let mut b: u8 = 0;
+    let mut b: u8 = 255;
     let mut k: usize = 0;
     while k < 8 {
-        b = bits::with_bit(b, k, labels[from + k] == label);
+        b = bits::keep_bit(b, k, labels[from + k] == label);
         k += 1;
     }
     b
@@ -193,9 +203,25 @@ fn parent_at(parents: &[u32], x: usize) -> usize
     parents[x] as usize
 }
 
-// Fills row u, when the rows behind it are filled: the nodes whose label fits, less those that lack a child for some child of u.
+// Whether a child of query node u lies nowhere. n, the number of rows, is for the contract alone.
+fn child_nowhere(w: &[u8], span: &[u16], n: usize, u: usize) -> bool
+    requires { ⌜ (tableBytes ≤ length (now w)) × (n ≤ 256) × (n ≤ length (now span)) × Holds (now span) 0 n (shape (now span) n) × (u < n) ⌝ }
+    ensures { λ r. ⌜ (r ≡ true → (c : ℕ) × (u < c) × (c < n) × Needs (now (span .entry)) u c × RowClear (now (w .entry)) c) ⌝ }
+{
+    let end = u + link_at(span, u);
+    let mut c = u + 1;
+    while c < end {
+        if bits::row_clear(w, c) {
+            return true;
+        }
+        c += link_at(span, c);
+    }
+    false
+}
+
+// Fills the clear row u: the nodes whose label fits, less those that lack a child for some child of u.
 // Where the row is empty nothing is left to take away. n, the number of rows, is for the contract alone.
-fn match_row(
+fn fill_row(
     w: &mut [u8],
     code: &[u32],
     span: &[u16],
@@ -217,6 +243,25 @@ fn match_row(
         keep_parents(w, u, c, parents);
         c += link_at(span, c);
     }
+}
+
+// Fills row u, when the rows behind it are filled. Where a child of u lies nowhere u lies nowhere, and the row stays clear.
+fn match_row(
+    w: &mut [u8],
+    code: &[u32],
+    span: &[u16],
+    n: usize,
+    u: usize,
+    parents: &[u32],
+    labels: &[u32],
+)
+    requires { ⌜ Ready (now w) (now code) (now span) (now parents) (now labels) n u ⌝ }
+    ensures { λ _. ⌜ RowIs (now (w .entry)) u (Lies (now (code .entry)) (now (span .entry)) (now (parents .entry)) (now (labels .entry)) u) (now (w .exit)) ⌝ }
+{
+    if child_nowhere(w, span, n, u) {
+        return;
+    }
+    fill_row(w, code, span, n, u, parents, labels);
 }
 
 // Fills the match table of the n rows of a query on a document, from the last query node to the first. No rows are empty: all bits stay clear.

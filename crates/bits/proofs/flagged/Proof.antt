@@ -1,20 +1,59 @@
--- A byte without bits keeps none; else the flags' byte masks it.
-use Prim.Native.Nat.{_+_}
+-- A byte without bits keeps none; else its first k bits are sifted.
+use borrow.Author.Needs.{needs}
+use Prim.Native.Nat.{_+_, _-_, _≤_}
+use native.Mathlib.Omega.{arith}
 use lib.ListN.{getD}
 use lib.Dec.{eqb}
-use Rattle.bits.proofs.Bits.{flagged-none, flagged-some}
-use borrow.Author.Needs.{needs}
+use Rattle.bits.specs.Bits.{Sifted}
+use Rattle.bits.proofs.Bits.{flagged-none, sifted-none, sifted-more}
 use Rattle.bits.proofs.flagged.Statement.{statement}
 use Rattle.bits.proofs.flagged.Tie as tie
 
-returns : tie.Need-returns
+abbrev Inv-loop : tie.InvT-loop
+Inv-loop b flags from r₀ k₀ r k = (k ≤ 8) × Sifted b (λ j. eqb (getD flags (from + j) 0) 1) k r
+
+abbrev μ-loop : tie.MeasureT-loop
+μ-loop b flags from r₀ k₀ r k = 8 - k
+
+returns : tie.Need-returns Inv-loop μ-loop
 returns c = flagged-none _ (λ j. eqb (getD (c .before .before .args .flags .now) (c .before .before .args .from + j) 0) 1) (c .if1 .taken)
 
-flag-byte-requires : tie.Need-flag-byte-requires
-flag-byte-requires c κs = search needs
+loop-holds : tie.Need-loop-holds Inv-loop μ-loop
+loop-holds c = (omega arith, sifted-none _ _)
 
-returns-2 : tie.Need-returns-2
-returns-2 c = flagged-some _ _ (λ j. eqb (getD (c .before .before .before .args .flags .now) (c .before .before .before .args .from + j) 0) 1) (c .flag-byte .ensures)
+add-keep-bit : tie.Need-add-keep-bit Inv-loop μ-loop
+add-keep-bit c = search needs
+
+shared-slice-read-keep-bit : tie.Need-shared-slice-read-keep-bit Inv-loop μ-loop
+shared-slice-read-keep-bit c = search needs
+
+keep-bit-requires : tie.Need-keep-bit-requires Inv-loop μ-loop
+keep-bit-requires c κs = search needs
+
+add-k : tie.Need-add-k Inv-loop μ-loop
+add-k c = search needs
+
+loop-less : tie.Need-loop-less Inv-loop μ-loop
+loop-less c = search needs
+
+loop-again : tie.Need-loop-again Inv-loop μ-loop
+loop-again c = (omega arith, sifted-more _ (λ j. eqb (getD (c .before .before .before .before .before .before .args .flags .now) (c .before .before .before .before .before .before .args .from + j) 0) 1) _ _ _ (c .before .before .loop-test .taken) (c .before .before .before .loop .inv .1) (c .keep-bit .ensures))
+
+returns-2 : tie.Need-returns-2 Inv-loop μ-loop
+returns-2 c = λ k l. c .before .loop .inv .1 .low k (omega arith)
 
 pub flagged-spec : {M : Type 1} → statement M
-flagged-spec = tie.close (tie.spec returns flag-byte-requires returns-2)
+flagged-spec =
+    tie.close
+    (tie.spec
+    Inv-loop
+    μ-loop
+    returns
+    loop-holds
+    add-keep-bit
+    shared-slice-read-keep-bit
+    keep-bit-requires
+    add-k
+    loop-less
+    loop-again
+    returns-2)

@@ -1,18 +1,16 @@
--- What is left to check from node x on decides, once the lengths are right.
+-- While the rows are good what is left to check from node x on decides, once the lengths are right.
 use borrow.Author.Needs.{needs}
 use Prim.Native.Nat.{_-_, _≤_}
 use native.Mathlib.Omega.{arith}
-use mathlib.Core.Path.{sym, _∙_}
-use borrow.Author.Tests.{not-true, not-false}
-use Rattle.matching.proofs.Tables.{Checked, table-none, table-many, table-uneven, checked-none, checked-more, checked-bad, checked-all}
+use Rattle.matching.proofs.Tables.{SoFar, table-none, table-many, table-uneven, sofar-none, sofar-more, sofar-all}
 use Rattle.matching.proofs.good_table.Statement.{statement}
 use Rattle.matching.proofs.good_table.Tie as tie
 
 abbrev Inv-loop : tie.InvT-loop
-Inv-loop parents labels n x₀ x = (x ≤ n) × Checked parents labels x
+Inv-loop parents labels n good₀ x₀ good x = (x ≤ n) × SoFar parents labels good x
 
 abbrev μ-loop : tie.MeasureT-loop
-μ-loop parents labels n x₀ x = n - x
+μ-loop parents labels n good₀ x₀ good x = n - x
 
 returns : tie.Need-returns Inv-loop μ-loop
 returns c = table-none _ _ (c .if1 .taken)
@@ -24,25 +22,25 @@ returns-3 : tie.Need-returns-3 Inv-loop μ-loop
 returns-3 c = table-uneven _ _ (c .if3 .taken)
 
 loop-holds : tie.Need-loop-holds Inv-loop μ-loop
-loop-holds c = (omega arith, checked-none _ _ (c .before .before .if1 .left) (omega arith))
+loop-holds c = (omega arith, sofar-none _ _ (c .before .before .if1 .left) (omega arith))
 
-mul-good-row : tie.Need-mul-good-row Inv-loop μ-loop
-mul-good-row c = search needs
+cast-still-good : tie.Need-cast-still-good Inv-loop μ-loop
+cast-still-good c = search needs
 
-shared-slice-read-good-row : tie.Need-shared-slice-read-good-row Inv-loop μ-loop
-shared-slice-read-good-row c = search needs
+mul-still-good : tie.Need-mul-still-good Inv-loop μ-loop
+mul-still-good c = search needs
 
-mul-good-row-2 : tie.Need-mul-good-row-2 Inv-loop μ-loop
-mul-good-row-2 c = search needs
+shared-slice-read-still-good : tie.Need-shared-slice-read-still-good Inv-loop μ-loop
+shared-slice-read-still-good c = search needs
 
-shared-slice-read-good-row-2 : tie.Need-shared-slice-read-good-row-2 Inv-loop μ-loop
-shared-slice-read-good-row-2 c = search needs
+mul-still-good-2 : tie.Need-mul-still-good-2 Inv-loop μ-loop
+mul-still-good-2 c = search needs
 
-good-row-requires : tie.Need-good-row-requires Inv-loop μ-loop
-good-row-requires c κs = search needs
+shared-slice-read-still-good-2 : tie.Need-shared-slice-read-still-good-2 Inv-loop μ-loop
+shared-slice-read-still-good-2 c = search needs
 
-returns-4 : tie.Need-returns-4 Inv-loop μ-loop
-returns-4 c = checked-bad _ _ _ (c .before .before .before .before .loop-test .taken) (omega arith) (c .before .before .before .before .before .loop .inv .1) (sym (c .before .good-row .ensures) ∙ not-true _ (c .if4 .taken))
+still-good-requires : tie.Need-still-good-requires Inv-loop μ-loop
+still-good-requires c κs = search needs
 
 add-x : tie.Need-add-x Inv-loop μ-loop
 add-x c = search needs
@@ -51,10 +49,10 @@ loop-less : tie.Need-loop-less Inv-loop μ-loop
 loop-less c = search needs
 
 loop-again : tie.Need-loop-again Inv-loop μ-loop
-loop-again c = (omega arith, checked-more _ _ _ (c .before .before .before .before .loop-test .taken) (omega arith) (c .before .before .before .before .before .loop .inv .1) (sym (c .before .good-row .ensures) ∙ not-false _ (c .if4 .left)))
+loop-again c = (omega arith, sofar-more _ _ _ _ _ (c .before .before .before .loop-test .taken) (omega arith) (c .before .before .before .before .loop .inv .1) (c .still-good .ensures))
 
-returns-5 : tie.Need-returns-5 Inv-loop μ-loop
-returns-5 c = checked-all _ _ (c .before .loop .x) (omega arith) (omega arith) (c .before .loop .inv .1)
+returns-4 : tie.Need-returns-4 Inv-loop μ-loop
+returns-4 c = sofar-all _ _ _ (c .before .loop .x) (omega arith) (omega arith) (c .before .loop .inv .1)
 
 pub good-table-spec : {M : Type 1} → statement M
 good-table-spec =
@@ -66,13 +64,13 @@ good-table-spec =
     returns-2
     returns-3
     loop-holds
-    mul-good-row
-    shared-slice-read-good-row
-    mul-good-row-2
-    shared-slice-read-good-row-2
-    good-row-requires
-    returns-4
+    cast-still-good
+    mul-still-good
+    shared-slice-read-still-good
+    mul-still-good-2
+    shared-slice-read-still-good-2
+    still-good-requires
     add-x
     loop-less
     loop-again
-    returns-5)
+    returns-4)

@@ -1,35 +1,35 @@
--- The labels of the first k nodes are the bits of b.
+-- The first k bits of b are left where the nodes bear the label.
 use borrow.Author.Needs.{needs}
 use mathlib.Core.Path.{_≡_}
 use Prim.Native.Nat.{_+_, _-_, _≤_}
 use native.Mathlib.Omega.{arith}
 use lib.ListN.{getD}
 use lib.Dec.{eqb}
-use Rattle.bits.specs.Bits.{Packed}
-use Rattle.bits.proofs.Bits.{packed-none, packed-more}
+use Rattle.bits.specs.Bits.{Sifted}
+use Rattle.bits.proofs.Bits.{sifted-none, sifted-more}
 use Rattle.matching.proofs.same_byte.Statement.{statement}
 use Rattle.matching.proofs.same_byte.Tie as tie
 
 abbrev Inv-loop : tie.InvT-loop
-Inv-loop label labels from b₀ k₀ b k = (k ≤ 8) × Packed (λ j. eqb (getD labels (from + j) 0) label) k b
+Inv-loop label labels from b₀ k₀ b k = (k ≤ 8) × Sifted 255 (λ j. eqb (getD labels (from + j) 0) label) k b
 
 abbrev μ-loop : tie.MeasureT-loop
 μ-loop label labels from b₀ k₀ b k = 8 - k
 
 loop-holds : tie.Need-loop-holds Inv-loop μ-loop
-loop-holds c = (omega arith, packed-none _)
+loop-holds c = (omega arith, sifted-none _ _)
 
-add-with-bit : tie.Need-add-with-bit Inv-loop μ-loop
-add-with-bit c = search needs
+add-keep-bit : tie.Need-add-keep-bit Inv-loop μ-loop
+add-keep-bit c = search needs
 
-mul-with-bit : tie.Need-mul-with-bit Inv-loop μ-loop
-mul-with-bit c = search needs
+mul-keep-bit : tie.Need-mul-keep-bit Inv-loop μ-loop
+mul-keep-bit c = search needs
 
-shared-slice-read-with-bit : tie.Need-shared-slice-read-with-bit Inv-loop μ-loop
-shared-slice-read-with-bit c = search needs
+shared-slice-read-keep-bit : tie.Need-shared-slice-read-keep-bit Inv-loop μ-loop
+shared-slice-read-keep-bit c = search needs
 
-with-bit-requires : tie.Need-with-bit-requires Inv-loop μ-loop
-with-bit-requires c κs = search needs
+keep-bit-requires : tie.Need-keep-bit-requires Inv-loop μ-loop
+keep-bit-requires c κs = search needs
 
 add-k : tie.Need-add-k Inv-loop μ-loop
 add-k c = search needs
@@ -38,7 +38,7 @@ loop-less : tie.Need-loop-less Inv-loop μ-loop
 loop-less c = search needs
 
 loop-again : tie.Need-loop-again Inv-loop μ-loop
-loop-again c = (omega arith, packed-more (λ j. eqb (getD (c .before .before .before .before .before .args .labels .now) (c .before .before .before .before .before .args .from + j) 0) (c .before .before .before .before .before .args .label)) _ _ _ (c .before .before .before .loop .inv .1) (c .with-bit .ensures))
+loop-again c = (omega arith, sifted-more _ (λ j. eqb (getD (c .before .before .before .before .before .args .labels .now) (c .before .before .before .before .before .args .from + j) 0) (c .before .before .before .before .before .args .label)) _ _ _ (c .before .before .loop-test .taken) (c .before .before .before .loop .inv .1) (c .keep-bit .ensures))
 
 returns : tie.Need-returns Inv-loop μ-loop
 returns c = let z : c .before .loop .k ≡ 8 = omega arith in rw z at (c .before .loop .inv .1)
@@ -50,10 +50,10 @@ same-byte-spec =
     Inv-loop
     μ-loop
     loop-holds
-    add-with-bit
-    mul-with-bit
-    shared-slice-read-with-bit
-    with-bit-requires
+    add-keep-bit
+    mul-keep-bit
+    shared-slice-read-keep-bit
+    keep-bit-requires
     add-k
     loop-less
     loop-again

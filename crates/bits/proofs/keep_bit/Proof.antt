@@ -1,0 +1,23 @@
+-- A mask clears the bit.
+use Rattle.bits.proofs.Bits.{keep-on, keep-off}
+use borrow.Author.Needs.{needs}
+use Rattle.bits.proofs.keep_bit.Statement.{statement}
+use Rattle.bits.proofs.keep_bit.Tie as tie
+
+returns : tie.Need-returns
+returns c = keep-on _ _ _ (c .if1 .taken)
+
+cast-result : tie.Need-cast-result
+cast-result c = search needs
+
+shl-result : tie.Need-shl-result
+shl-result c = search needs
+
+sub-result : tie.Need-sub-result
+sub-result c = search needs
+
+returns-2 : tie.Need-returns-2
+returns-2 c = keep-off _ _ _ (c .before .pre) (c .if1 .left)
+
+pub keep-bit-spec : {M : Type 1} → statement M
+keep-bit-spec = tie.close (tie.spec returns cast-result shl-result sub-result returns-2)

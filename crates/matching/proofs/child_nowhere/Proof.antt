@@ -1,0 +1,65 @@
+-- Row u is needed by its children from c on, and none before c is clear.
+use mathlib.Core.Path.{_≡_}
+use Prim.Native.Nat.{ℕ, _-_, _≤_, _<_}
+use native.Mathlib.Omega.{arith}
+use Rattle.rows.proofs.Rows.{row-opens}
+use Rattle.matching.proofs.Filling.{Children, children-start, child-span, child-next, child-needed}
+use Rattle.matching.proofs.child_nowhere.Statement.{statement}
+use Rattle.matching.proofs.child_nowhere.Tie as tie
+
+abbrev Inv-loop : tie.InvT-loop
+Inv-loop w span n u end c₀ c = (u < c) × (end ≤ n) × Children span u c end
+
+abbrev μ-loop : tie.MeasureT-loop
+μ-loop w span n u end c₀ c = end - c
+
+link-at-requires : tie.Need-link-at-requires Inv-loop μ-loop
+link-at-requires c κs = omega (arith, c .before .before .pre .2, c .before .before .pre .4)
+
+add-end : tie.Need-add-end Inv-loop μ-loop
+add-end c = let o = row-opens _ _ (c .before .before .before .pre .3) _ (c .before .before .before .pre .4) in omega (arith, c .link-at .ensures, o .inside, c .before .before .before .pre .1)
+
+add-c : tie.Need-add-c Inv-loop μ-loop
+add-c c = omega (arith, c .before .before .before .pre .1, c .before .before .before .pre .4)
+
+loop-holds : tie.Need-loop-holds Inv-loop μ-loop
+loop-holds c = let o = row-opens _ _ (c .before .before .before .pre .3) _ (c .before .before .before .pre .4) in (omega arith, omega (arith, c .link-at .ensures, o .inside), rw (c .link-at .ensures) (children-start _ _ _ (c .before .before .before .pre .3) (c .before .before .before .pre .4)))
+
+row-clear-requires : tie.Need-row-clear-requires Inv-loop μ-loop
+row-clear-requires c κs = (omega (arith, c .before .before .before .before .before .pre .1, c .before .loop .inv .1, c .loop-test .taken), omega (arith, c .before .before .before .before .before .pre .0, c .before .before .before .before .before .pre .1, c .before .loop .inv .1, c .loop-test .taken))
+
+returns : tie.Need-returns Inv-loop μ-loop
+returns c = λ e. (_, c .before .before .before .loop .inv .0, omega (arith, c .before .before .before .loop .inv .1, c .before .before .loop-test .taken), child-needed _ _ _ _ (c .before .before .loop-test .taken) (c .before .before .before .loop .inv .2), c .before .row-clear .ensures (c .if1 .taken))
+
+link-at-requires-2 : tie.Need-link-at-requires-2 Inv-loop μ-loop
+link-at-requires-2 c κs = omega (arith, c .before .before .before .before .before .before .before .pre .2, c .before .before .before .loop .inv .1, c .before .before .loop-test .taken)
+
+add-c-2 : tie.Need-add-c-2 Inv-loop μ-loop
+add-c-2 c = let o = child-span _ _ _ _ (c .before .before .before .loop-test .taken) (c .before .before .before .before .loop .inv .2) in omega (arith, c .link-at2 .ensures, o .1, c .before .before .before .before .loop .inv .1, c .before .before .before .before .before .before .before .before .pre .1)
+
+loop-less : tie.Need-loop-less Inv-loop μ-loop
+loop-less c = let o = child-span _ _ _ _ (c .before .before .before .loop-test .taken) (c .before .before .before .before .loop .inv .2) in omega (arith, c .link-at2 .ensures, o .0, c .before .before .before .loop-test .taken)
+
+loop-again : tie.Need-loop-again Inv-loop μ-loop
+loop-again c = (omega (arith, c .before .before .before .before .loop .inv .0), c .before .before .before .before .loop .inv .1, rw (c .link-at2 .ensures) (child-next _ _ _ _ (c .before .before .before .loop-test .taken) (c .before .before .before .before .loop .inv .2)))
+
+returns-2 : tie.Need-returns-2 Inv-loop μ-loop
+returns-2 c = λ e. let z : _≡_ {A = ℕ} 0 1 = cc in absurd (omega arith)
+
+pub child-nowhere-spec : {M : Type 1} → statement M
+child-nowhere-spec =
+    tie.close
+    (tie.spec
+    Inv-loop
+    μ-loop
+    link-at-requires
+    add-end
+    add-c
+    loop-holds
+    row-clear-requires
+    returns
+    link-at-requires-2
+    add-c-2
+    loop-less
+    loop-again
+    returns-2)
