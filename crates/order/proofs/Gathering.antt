@@ -25,14 +25,14 @@ slot-row n p l = sym (rw (lt-ltb p n l))
 pub slot-top : (n p : ℕ) → n ≤ p → n ≡ slotOf n p
 slot-top n p l = sym (rw (le-ltb p n l))
 
-slot-le : (n p : ℕ) → slotOf n p ≤ n
+pub slot-le : (n p : ℕ) → slotOf n p ≤ n
 slot-le n p = go (ltb p n) refl
   where
     go : (t : Bool) → ltb p n ≡ t → cond t p n ≤ n
     go true e = let z = ltb-true p n e in omega arith
     go false e = omega arith
 
-slot-inj : (n x p : ℕ) → n ≤ noRow → Known n x → Known n p → slotOf n x ≡ slotOf n p → x ≡ p
+pub slot-inj : (n x p : ℕ) → n ≤ noRow → Known n x → Known n p → slotOf n x ≡ slotOf n p → x ≡ p
 slot-inj n x p h (inl a) (inl b) e = let y = slot-row n x a in let z = slot-row n p b in omega arith
 slot-inj n x p h (inl a) (inr b) e = let y = slot-row n x a in let z = slot-top n p (omega arith) in absurd (omega arith)
 slot-inj n x p h (inr a) (inl b) e = let y = slot-top n x (omega arith) in let z = slot-row n p b in absurd (omega arith)

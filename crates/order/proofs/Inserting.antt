@@ -13,7 +13,7 @@ use Rattle.order.specs.Links.{forestAt, Linked, In, Apart, cmpT, upTo, p
 use Rattle.order.proofs.Links.{read-is, finite-of, read-none, Opens, opens}
 
 -- ------------------------------------------------------------------ links that are kept
-kept : (fs ns fs′ ns′ : List ℕ) → length ns′ ≡ length ns → (F : Forest ℕ) (c : ℕ)
+pub kept : (fs ns fs′ ns′ : List ℕ) → length ns′ ≡ length ns → (F : Forest ℕ) (c : ℕ)
     → ((j : ℕ) → In j F → (getD fs′ j 0 ≡ getD fs j 0) × (getD ns′ j 0 ≡ getD ns j 0)) → Linked fs ns c F → Linked fs′ ns′ c F
 kept fs ns fs′ ns′ len bare c same h = rw len h
 kept fs ns fs′ ns′ len (tree i k r) c same (e, l, hk, hr) = (
@@ -176,7 +176,7 @@ each-map P Q f bare h = tt
 each-map P Q f (tree i k r) (pi, pk, pr) = (f i (width k) pi, each-map P Q f k pk, each-map P Q f r pr)
 
 module _ (key : List ℕ) where
-  in-orderedBy : (F : Forest ℕ) (j : ℕ) → In j (orderedBy key F) → In j F
+  pub in-orderedBy : (F : Forest ℕ) (j : ℕ) → In j (orderedBy key F) → In j F
   unfolding orderedBy
   in-orderedBy bare j m = m
   in-orderedBy (tree i k r) j m = go (in-place key i (orderedBy key k) (orderedBy key r) j m) (in-orderedBy k j) (in-orderedBy r j)
@@ -191,10 +191,10 @@ module _ (key : List ℕ) where
   size-orderedBy bare = refl
   size-orderedBy (tree i k r) = let a = size-place key i (orderedBy key k) (orderedBy key r) in let b = size-orderedBy k in let d = size-orderedBy r in omega arith
 
-  apart-both : (i : ℕ) (k r : Forest ℕ) → Apart (orderedBy key k) → Apart (orderedBy key r) → Apart (tree i k r) → Apart (tree i (orderedBy key k) (orderedBy key r))
+  pub apart-both : (i : ℕ) (k r : Forest ℕ) → Apart (orderedBy key k) → Apart (orderedBy key r) → Apart (tree i k r) → Apart (tree i (orderedBy key k) (orderedBy key r))
   apart-both i k r sk sr (ik, ir, kr, ak, ar) = ((λ m. ik (in-orderedBy k i m)), (λ m. ir (in-orderedBy r i m)), (λ j m m′. kr j (in-orderedBy k j m) (in-orderedBy r j m′)), sk, sr)
 
-  apart-orderedBy : (F : Forest ℕ) → Apart F → Apart (orderedBy key F)
+  pub apart-orderedBy : (F : Forest ℕ) → Apart F → Apart (orderedBy key F)
   unfolding orderedBy
   apart-orderedBy bare a = a
   apart-orderedBy (tree i k r) a = apart-place key i (orderedBy key k) (orderedBy key r) (apart-both i k r (apart-orderedBy k (a .3)) (apart-orderedBy r (a .4)) a)

@@ -325,7 +325,7 @@ pub fn image_rows(
     span: &mut [u16],
     up: &mut [u16],
 )
-    requires { ⌜ TreeTable (now parent) (now code) (now mark) n × Room n (now first) (now next) (now count) (now key) (now row) (now «out_code») (now «out_mark») (now kids) (now span) (now up) ⌝ }
+    requires { ⌜ TreeTable (now parent) (now code) (now mark) n × Room n (now first) (now next) (now count) (now row) (now «out_code») (now «out_mark») (now kids) (now span) (now up) × (length (now next) ≤ length (now key)) ⌝ }
     ensures { λ _. ⌜ Rows (now («out_code» .exit)) (now («out_mark» .exit)) (now (kids .exit)) (now (span .exit)) (now (up .exit)) n × (treeRows (now («out_code» .exit)) (now («out_mark» .exit)) (now (span .exit)) n ≡ ordered (tableTree (now (parent .entry)) (now (code .entry)) (now (mark .entry)) n)) ⌝ }
 {
     clear(n, first, count);
@@ -334,5 +334,31 @@ pub fn image_rows(
     let top = link(first, n);
     let q = in_order(first, next, key, top);
     lay(first, next, q, 65535, 0, row, up, span);
+    bear(row, code, mark, count, n, out_code, out_mark, kids);
+}
+
+// The tree of the first n rows of a table as rows, brothers in the order of the table. The rest is as in `image_rows`.
+pub fn tree_rows(
+    parent: &[u16],
+    code: &[u32],
+    mark: &[u8],
+    n: usize,
+    first: &mut [u16],
+    next: &mut [u16],
+    count: &mut [u16],
+    row: &mut [u16],
+    out_code: &mut [u32],
+    out_mark: &mut [u8],
+    kids: &mut [u16],
+    span: &mut [u16],
+    up: &mut [u16],
+)
+    requires { ⌜ TreeTable (now parent) (now code) (now mark) n × Room n (now first) (now next) (now count) (now row) (now «out_code») (now «out_mark») (now kids) (now span) (now up) ⌝ }
+    ensures { λ _. ⌜ Rows (now («out_code» .exit)) (now («out_mark» .exit)) (now (kids .exit)) (now (span .exit)) (now (up .exit)) n × (treeRows (now («out_code» .exit)) (now («out_mark» .exit)) (now (span .exit)) n ≡ tableTree (now (parent .entry)) (now (code .entry)) (now (mark .entry)) n) ⌝ }
+{
+    clear(n, first, count);
+    gather(parent, n, first, next, count);
+    let top = link(first, n);
+    lay(first, next, top, 65535, 0, row, up, span);
     bear(row, code, mark, count, n, out_code, out_mark, kids);
 }

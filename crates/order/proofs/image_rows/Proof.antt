@@ -1,6 +1,8 @@
-use borrow.Author.Needs.{needs}
-use mathlib.Core.Path.{_∙_}
-use Rattle.order.proofs.ImageRows.{slots, keyable, top-slot, loose, roomy, bearing, finished}
+use mathlib.Core.Path.{refl, ap, _∙_}
+use native.Mathlib.Omega.{arith}
+use Rattle.order.specs.Links.{orderedBy}
+use Rattle.order.proofs.TableOrder.{whole-sorted, tree-sorted}
+use Rattle.order.proofs.ImageRows.{slots, keyable, loose, roomy, bearing, finished, read}
 use borrow.Author.Needs.{needs}
 use Rattle.order.proofs.image_rows.Statement.{statement}
 use Rattle.order.proofs.image_rows.Tie as tie
@@ -23,8 +25,7 @@ gather-requires c κs =
     let c2 = c1 .before .before .before .before .before .before .before .before .before .before .before .before .before .before .before .before in
     let s = c2 .pre in
     let k = c1 .clear in
-    slots _ _ _ _ _ _ _ _ _ _ _ _ _ _ s
-    (k .last .1 .0) (k .last .1 .1 .0) (k .ensures) (k .kept .1 .0) (k .kept .1 .1 .0)
+    slots _ _ _ _ _ _ _ _ _ _ _ _ _ (s .0) (s .1) (k .last .1 .0) (k .last .1 .1 .0) (k .ensures) (k .kept .1 .0) (k .kept .1 .1 .0)
 
 make-keys-requires : tie.Need-make-keys-requires
 make-keys-requires c κs =
@@ -34,9 +35,7 @@ make-keys-requires c κs =
     let s = c3 .pre in
     let k = c2 .clear in
     let g = c1 .gather in
-    keyable _ _ _ _ _ _ _ _ _ _ _ _ _ _ s
-    (k .last .1 .0) (k .last .1 .1 .0) (k .ensures) (k .kept .1 .0) (k .kept .1 .1 .0)
-    _ _ _ (g .ensures) (g .kept .1 .1 .0) (g .kept .1 .1 .1 .0) (g .kept .1 .1 .1 .1 .0)
+    keyable _ _ _ _ _ _ _ _ _ _ _ _ _ (s .0) (s .1) _ _ _ (g .ensures) (g .kept .1 .1 .1 .0) _ refl _ (s .2) (g .kept .1 .1 .0 ∙ k .kept .1 .0) (g .kept .1 .1 .1 .1 .0 ∙ k .kept .1 .1 .0)
 
 link-requires : tie.Need-link-requires
 link-requires c κs =
@@ -46,9 +45,7 @@ link-requires c κs =
     let s = c3 .pre in
     let k = c2 .clear in
     let g = c1 .gather in
-    top-slot _ _ _ _ _ _ _ _ _ _ _ _ _ _ s
-    (k .last .1 .0) (k .last .1 .1 .0) (k .ensures) (k .kept .1 .0) (k .kept .1 .1 .0)
-    _ _ _ (g .ensures) (g .kept .1 .1 .0) (g .kept .1 .1 .1 .0) (g .kept .1 .1 .1 .1 .0)
+    omega (arith, g .kept .1 .1 .0, k .kept .1 .0, s .1 .firsts)
 
 in-order-requires : tie.Need-in-order-requires
 in-order-requires c κs =
@@ -62,10 +59,7 @@ in-order-requires c κs =
     let g = c3 .gather in
     let m = c2 .make-keys in
     let l = c1 .link in
-    loose _ _ _ _ _ _ _ _ _ _ _ _ _ _ s
-    (k .last .1 .0) (k .last .1 .1 .0) (k .ensures) (k .kept .1 .0) (k .kept .1 .1 .0)
-    _ _ _ (g .ensures) (g .kept .1 .1 .0) (g .kept .1 .1 .1 .0) (g .kept .1 .1 .1 .1 .0)
-    (m .last .1 .1 .1 .1 .0) (m .ensures) (m .kept .1 .1 .1 .1 .0) _ (l .ensures .0) (l .ensures .1)
+    loose _ _ _ _ _ _ _ _ _ _ _ _ _ (s .0) (s .1) _ _ _ (g .ensures) (g .kept .1 .1 .1 .0) _ (l .ensures .0) (m .last .1 .1 .1 .1 .0) (rw (m .kept .1 .1 .1 .1 .0) (s .2)) (g .kept .1 .1 .0 ∙ k .kept .1 .0) (g .kept .1 .1 .1 .1 .0 ∙ k .kept .1 .1 .0) (l .ensures .1)
 
 lay-requires : tie.Need-lay-requires
 lay-requires c κs =
@@ -81,11 +75,9 @@ lay-requires c κs =
     let m = c3 .make-keys in
     let l = c2 .link in
     let o = c1 .in-order in
-    roomy _ _ _ _ _ _ _ _ _ _ _ _ _ _ s
-    (k .last .1 .0) (k .last .1 .1 .0) (k .ensures) (k .kept .1 .0) (k .kept .1 .1 .0)
-    _ _ _ (g .ensures) (g .kept .1 .1 .0) (g .kept .1 .1 .1 .0) (g .kept .1 .1 .1 .1 .0)
-    (m .last .1 .1 .1 .1 .0) (m .ensures) (m .kept .1 .1 .1 .1 .0) _ (l .ensures .0) (l .ensures .1)
-    _ _ _ (o .ensures)
+    let h = read _ _ _ _ _ _ _ _ _ _ _ _ _ (s .0) (s .1) _ _ _ (g .ensures) (g .kept .1 .1 .1 .0) _ (l .ensures .0) in
+    let w = whole-sorted _ _ _ _ (s .0) (g .last .1 .1 .1 .1 .0) (g .ensures .counts) (m .last .1 .1 .1 .1 .0) (m .ensures) in
+    roomy _ _ _ _ _ _ _ _ _ _ _ _ _ (s .0) (s .1) _ _ (g .last .1 .1 .1 .1 .0) (o .ensures .firsts ∙ g .kept .1 .1 .0 ∙ k .kept .1 .0) (o .ensures .nexts ∙ g .kept .1 .1 .1 .0) (g .kept .1 .1 .1 .1 .0 ∙ k .kept .1 .1 .0) (g .ensures .counts) _ w _ (o .ensures .reads ∙ ap (orderedBy (m .last .1 .1 .1 .1 .0)) (h .0)) (o .ensures .finite)
 
 bear-requires : tie.Need-bear-requires
 bear-requires c κs =
@@ -103,12 +95,9 @@ bear-requires c κs =
     let l = c3 .link in
     let o = c2 .in-order in
     let a = c1 .lay in
-    bearing _ _ _ _ _ _ _ _ _ _ _ _ _ _ s
-    (k .last .1 .0) (k .last .1 .1 .0) (k .ensures) (k .kept .1 .0) (k .kept .1 .1 .0)
-    _ _ _ (g .ensures) (g .kept .1 .1 .0) (g .kept .1 .1 .1 .0) (g .kept .1 .1 .1 .1 .0)
-    (m .last .1 .1 .1 .1 .0) (m .ensures) (m .kept .1 .1 .1 .1 .0) _ (l .ensures .0) (l .ensures .1)
-    _ _ _ (o .ensures)
-    _ _ _ _ (a .ensures)
+    let h = read _ _ _ _ _ _ _ _ _ _ _ _ _ (s .0) (s .1) _ _ _ (g .ensures) (g .kept .1 .1 .1 .0) _ (l .ensures .0) in
+    let w = whole-sorted _ _ _ _ (s .0) (g .last .1 .1 .1 .1 .0) (g .ensures .counts) (m .last .1 .1 .1 .1 .0) (m .ensures) in
+    bearing _ _ _ _ _ _ _ _ _ _ _ _ _ (s .0) (s .1) _ _ (g .last .1 .1 .1 .1 .0) (o .ensures .firsts ∙ g .kept .1 .1 .0 ∙ k .kept .1 .0) (o .ensures .nexts ∙ g .kept .1 .1 .1 .0) (g .kept .1 .1 .1 .1 .0 ∙ k .kept .1 .1 .0) (g .ensures .counts) _ w _ (o .ensures .reads ∙ ap (orderedBy (m .last .1 .1 .1 .1 .0)) (h .0)) (o .ensures .finite) _ _ _ _ (a .ensures)
 
 same-length : tie.Need-same-length
 same-length c =
@@ -170,13 +159,11 @@ returns c =
     let o = c3 .in-order in
     let a = c2 .lay in
     let b = c1 .bear in
-    finished _ _ _ _ _ _ _ _ _ _ _ _ _ _ s
-    (k .last .1 .0) (k .last .1 .1 .0) (k .ensures) (k .kept .1 .0) (k .kept .1 .1 .0)
-    _ _ _ (g .ensures) (g .kept .1 .1 .0) (g .kept .1 .1 .1 .0) (g .kept .1 .1 .1 .1 .0)
-    (m .last .1 .1 .1 .1 .0) (m .ensures) (m .kept .1 .1 .1 .1 .0) _ (l .ensures .0) (l .ensures .1)
-    _ _ _ (o .ensures)
-    _ _ _ _ (a .ensures)
+    let h = read _ _ _ _ _ _ _ _ _ _ _ _ _ (s .0) (s .1) _ _ _ (g .ensures) (g .kept .1 .1 .1 .0) _ (l .ensures .0) in
+    let w = whole-sorted _ _ _ _ (s .0) (g .last .1 .1 .1 .1 .0) (g .ensures .counts) (m .last .1 .1 .1 .1 .0) (m .ensures) in
+    finished _ _ _ _ _ _ _ _ _ _ _ _ _ (s .0) (s .1) _ _ (g .last .1 .1 .1 .1 .0) (o .ensures .firsts ∙ g .kept .1 .1 .0 ∙ k .kept .1 .0) (o .ensures .nexts ∙ g .kept .1 .1 .1 .0) (g .kept .1 .1 .1 .1 .0 ∙ k .kept .1 .1 .0) (g .ensures .counts) _ w _ (o .ensures .reads ∙ ap (orderedBy (m .last .1 .1 .1 .1 .0)) (h .0)) (o .ensures .finite) _ _ _ _ (a .ensures)
     (b .last .1 .1 .1 .1 .1 .0) (b .last .1 .1 .1 .1 .1 .1 .0) (b .last .1 .1 .1 .1 .1 .1 .1 .0) (b .ensures) (b .kept .1 .1 .1 .1 .1 .0) (b .kept .1 .1 .1 .1 .1 .1 .0) (b .kept .1 .1 .1 .1 .1 .1 .1 .0)
+    _ (tree-sorted _ _ _ _ (s .0) (g .last .1 .1 .1 .1 .0) (g .ensures .counts) (m .last .1 .1 .1 .1 .0) (m .ensures))
 
 pub image-rows-spec : {M : Type 1} → statement M
 image-rows-spec =
