@@ -228,7 +228,7 @@ module _ (parent : List ℕ) (n : ℕ) (lev : ℕ → ℕ) (L : Levels parent n 
   plant-lt m p b (j ∷ js) x g (l, u, e, k) (inr (inl h)) = g j h
   plant-lt m p b (j ∷ js) x g (l, u, e, k) (inr (inr h)) = plant-lt m p (suc j) js x g k h
 
-  grown-lt : (m p x : ℕ) → In x (grown m parent n p) → x < n
+  pub grown-lt : (m p x : ℕ) → In x (grown m parent n p) → x < n
   unfolding grown
   grown-lt zero p x h = absurd h
   grown-lt (suc m) p x h = plant-lt m p 0 (childrenOf p parent n 0) x (λ j. grown-lt m j x) (all-children parent n p) h

@@ -1,5 +1,5 @@
 -- From the table to the rows, call by call: what each call may assume, and in the end that the rows are the table's tree.
-use mathlib.Core.Path.{_≡_, ap, _∙_}
+use mathlib.Core.Path.{_≡_, _∙_}
 use mathlib.Core.Logic.{inl, inr}
 use mathlib.Core.List.{List}
 use Prim.Native.Nat.{ℕ, _+_, _<_, _≤_}
@@ -7,16 +7,15 @@ use native.Mathlib.Omega.{arith}
 use native.Mathlib.Decide.{ℕ-discrete}
 use lib.ListN.{length, getD}
 use Rattle.meaning.specs.Tree.{Forest, Tag, size}
-use Rattle.meaning.specs.Image.{ordered}
 use Rattle.rows.specs.Rows.{tagAt, mapT, treeRows, noRow, Rows}
-use Rattle.order.specs.Table.{tableShape, tableTree, TreeTable}
+use Rattle.order.specs.Table.{tableShape, TreeTable, ParentsFirst}
 use Rattle.order.specs.Gathering.{Known, Cleared, Slots, Counts, Gathered}
-use Rattle.order.specs.Keys.{Keyable, Keys}
-use Rattle.order.specs.Links.{forestAt, Finite, Apart, orderedBy, Loose, Ordered}
+use Rattle.order.specs.Links.{forestAt, Finite}
+use Rattle.order.specs.Sorting.{Sortable}
 use Rattle.order.specs.LaidOut.{Shows, Roomy, Laid, Borne, Bearing}
 use Rattle.order.specs.Contract.{Room}
 use Rattle.order.proofs.Gathering.{reads-grown}
-use Rattle.order.proofs.TableOrder.{lev, levels, Whole, whole-shape, whole-sorted, tree-sorted, row-lt, tree-shown, are-rows}
+use Rattle.order.proofs.TableOrder.{lev, levels, Whole, row-lt, tree-shown, are-rows}
 
 module _ (parent code mark : List ℕ) (n : ℕ) (first next count row code′ mark′ kids span up : List ℕ)
     (T : TreeTable parent code mark n) (R : Room n first next count row code′ mark′ kids span up) where
@@ -36,6 +35,20 @@ module _ (parent code mark : List ℕ) (n : ℕ) (first next count row code′ m
         short = R .short;
         counts = rw lc₁ (R .counts);
         known = λ i l. known i l (ℕ-discrete (getD parent i 0) noRow);
+      },
+      E,
+    )
+
+    pub sortable : ParentsFirst parent n → (key : List ℕ) → length next ≤ length key → Sortable parent code mark n fs₁ next count₁ key × Cleared (n + 1) fs₁ count₁
+    sortable O key lk = (
+      record {
+        table = T;
+        order = O;
+        firsts = rw lf₁ (R .firsts);
+        nexts = R .nexts;
+        short = R .short;
+        counts = rw lc₁ (R .counts);
+        wide = record { firsts = rw lf₁ (R .wide); keys = lk };
       },
       E,
     )
@@ -81,21 +94,7 @@ module _ (parent code mark : List ℕ) (n : ℕ) (first next count row code′ m
       )
 
   -- ---------------------------------------------------------------- brothers in the order of the table
-  module _ (fs ns cs : List ℕ) (G : Gathered parent n 0 fs ns cs) (ln : length ns ≡ length next) (c : ℕ) (ec : c ≡ getD fs n 0) where
-    pub read : (forestAt fs ns c ≡ tableShape parent n) × Finite fs ns c × Apart (forestAt fs ns c)
-    unfolding tableShape
-    read = rw ec (reads-grown parent n (lev parent code mark n T) (levels parent code mark n T) fs ns cs G (omega (arith, ln, R .nexts)))
-
-    -- ---------------------------------------------------------------- make_keys and in_order
-    module _ (key : List ℕ) (keys : length next ≤ length key) (lf : length fs ≡ length first) (lc : length cs ≡ length count) where
-      pub keyable : Keyable code mark cs n key
-      keyable = record { codes = T .codes; marks = T .marks; counts = omega (arith, lc, R .counts); keys = omega (arith, R .nexts); labels = T .labels }
-
-      pub loose : c < 65536 → Loose fs ns key c
-      loose low = record {
-        wide = record { firsts = omega (arith, lf, ln, R .wide); keys = omega arith };
-        short = omega (arith, ln, R .short);
-        low = low;
-        finite = read .1;
-        apart = read .2;
-      }
+  pub read : (fs ns cs : List ℕ) → Gathered parent n 0 fs ns cs → length ns ≡ length next → (c : ℕ) → c ≡ getD fs n 0
+      → (forestAt fs ns c ≡ tableShape parent n) × Finite fs ns c
+  unfolding tableShape
+  read fs ns cs G ln c ec = rw ec (reads-grown parent n (lev parent code mark n T) (levels parent code mark n T) fs ns cs G (omega (arith, ln, R .nexts)))

@@ -70,7 +70,7 @@ module _ (parent code mark : List ℕ) (n : ℕ) (T : TreeTable parent code mark
       go i l (no d) = let h = T .linked i l d in (row-lev i l ∙ ap suc (h .1 ∙ sym (row-lev (getD parent i 0) (h .0))), inl (h .0))
 
   -- the whole tree has n nodes, and at most one top
-  size-shape : size (tableShape parent n) ≡ n
+  pub size-shape : size (tableShape parent n) ≡ n
   unfolding tableShape
   size-shape = size-grown parent n lev levels
 
