@@ -24,7 +24,7 @@ children-from : (parent : List ℕ) (p e b c : ℕ) (js : List ℕ) → c ≤ b 
 children-from parent p e b c [] h k = tt
 children-from parent p e b c (j ∷ js) h (l, m, q, k) = (omega arith, m, q, k)
 
-children-of : (parent : List ℕ) (p e k b : ℕ) → b + k ≡ e → Children parent p e b (childrenOf p parent k b)
+pub children-of : (parent : List ℕ) (p e k b : ℕ) → b + k ≡ e → Children parent p e b (childrenOf p parent k b)
 unfolding childrenOf
 children-of parent p e zero b h = tt
 children-of parent p e (suc k) b h = go (eqb (getD parent b 0) p) refl (children-of parent p e k (suc b) (omega arith))
@@ -140,7 +140,7 @@ hits-le (tree i k r) (ik, ir, kr, ak, ar) j = go (eqb i j) refl (hit k j) (hit r
     go false e (inr a) (inl b) x y = omega arith
     go false e (inr a) (inr b) x y = absurd (kr j a b)
 
-size-le : (N : ℕ) (F : Forest ℕ) → Apart F → ((j : ℕ) → In j F → j < N) → size F ≤ N
+pub size-le : (N : ℕ) (F : Forest ℕ) → Apart F → ((j : ℕ) → In j F → j < N) → size F ≤ N
 size-le N F a h = let z = sum-hits N F h in let y = sum-le N (hits F) (hits-le F a) in omega arith
 
 size-ge : (N : ℕ) (F : Forest ℕ) → ((j : ℕ) → j < N → In j F) → ((j : ℕ) → In j F → j < N) → N ≤ size F
@@ -207,7 +207,7 @@ module _ (parent : List ℕ) (n : ℕ) (lev : ℕ → ℕ) (L : Levels parent n 
       no2 (inl q′) v = let y = ap lev q′ in omega arith
       no2 (inr (t′, q′, r′)) v = let y : j ≡ i = same-anc x t′ t j i q′ q (omega arith) in omega arith
 
-  apart-plant : (m p b : ℕ) (js : List ℕ) → ((j : ℕ) → Apart (grown m parent n j)) → Children parent p n b js → Apart (plant (λ j. j) (grown m parent n) js)
+  pub apart-plant : (m p b : ℕ) (js : List ℕ) → ((j : ℕ) → Apart (grown m parent n j)) → Children parent p n b js → Apart (plant (λ j. j) (grown m parent n) js)
   apart-plant m p b [] g k = tt
   apart-plant m p b (j ∷ js) g (l, u, e, k) = (
     (λ h. let v = in-grown m j j h in let z = v .2 in omega arith),
@@ -222,13 +222,13 @@ module _ (parent : List ℕ) (n : ℕ) (lev : ℕ → ℕ) (L : Levels parent n 
   apart-grown zero p = tt
   apart-grown (suc m) p = apart-plant m p 0 (childrenOf p parent n 0) (apart-grown m) (all-children parent n p)
 
-  plant-lt : (m p b : ℕ) (js : List ℕ) (x : ℕ) → ((j : ℕ) → In x (grown m parent n j) → x < n) → Children parent p n b js → In x (plant (λ j. j) (grown m parent n) js) → x < n
+  pub plant-lt : (m p b : ℕ) (js : List ℕ) (x : ℕ) → ((j : ℕ) → In x (grown m parent n j) → x < n) → Children parent p n b js → In x (plant (λ j. j) (grown m parent n) js) → x < n
   plant-lt m p b [] x g k h = absurd h
   plant-lt m p b (j ∷ js) x g (l, u, e, k) (inl h) = rw h u
   plant-lt m p b (j ∷ js) x g (l, u, e, k) (inr (inl h)) = g j h
   plant-lt m p b (j ∷ js) x g (l, u, e, k) (inr (inr h)) = plant-lt m p (suc j) js x g k h
 
-  grown-lt : (m p x : ℕ) → In x (grown m parent n p) → x < n
+  pub grown-lt : (m p x : ℕ) → In x (grown m parent n p) → x < n
   unfolding grown
   grown-lt zero p x h = absurd h
   grown-lt (suc m) p x h = plant-lt m p 0 (childrenOf p parent n 0) x (λ j. grown-lt m j x) (all-children parent n p) h

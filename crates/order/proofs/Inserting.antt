@@ -1,4 +1,4 @@
--- Putting a tree into a list that is in order, by two links, and putting a forest in order in place: what is read afterwards.
+-- Putting a tree into a list that is in order, by two links: what is read afterwards. What putting a forest in order keeps.
 use mathlib.Core.Path.{_≡_, refl, sym, ap, _∙_}
 use mathlib.Core.Logic.{_⊎_, inl, inr}
 use mathlib.Core.List.{List}
@@ -9,11 +9,11 @@ use lib.ListN.{length, getD, set, length-set}
 use lib.Seq.{getD-set-same, getD-set-other}
 use Rattle.meaning.specs.Tree.{Forest, bare, tree, size}
 use Rattle.rows.specs.Rows.{width}
-use Rattle.order.specs.Links.{forestAt, Linked, In, Apart, cmpT, upTo, placeBy, orderedBy, spotOf, Ready, Placed, Loose, Ordered}
-use Rattle.order.proofs.Links.{read-is, finite-of, read-none, Opens, opens}
+use Rattle.order.specs.Links.{forestAt, Linked, In, Apart, cmpF, cmpT, upTo, placeBy, orderedBy, spotOf, Ready, Placed}
+use Rattle.order.proofs.Links.{read-is, finite-of}
 
 -- ------------------------------------------------------------------ links that are kept
-kept : (fs ns fs′ ns′ : List ℕ) → length ns′ ≡ length ns → (F : Forest ℕ) (c : ℕ)
+pub kept : (fs ns fs′ ns′ : List ℕ) → length ns′ ≡ length ns → (F : Forest ℕ) (c : ℕ)
     → ((j : ℕ) → In j F → (getD fs′ j 0 ≡ getD fs j 0) × (getD ns′ j 0 ≡ getD ns j 0)) → Linked fs ns c F → Linked fs′ ns′ c F
 kept fs ns fs′ ns′ len bare c same h = rw len h
 kept fs ns fs′ ns′ len (tree i k r) c same (e, l, hk, hr) = (
@@ -176,7 +176,7 @@ each-map P Q f bare h = tt
 each-map P Q f (tree i k r) (pi, pk, pr) = (f i (width k) pi, each-map P Q f k pk, each-map P Q f r pr)
 
 module _ (key : List ℕ) where
-  in-orderedBy : (F : Forest ℕ) (j : ℕ) → In j (orderedBy key F) → In j F
+  pub in-orderedBy : (F : Forest ℕ) (j : ℕ) → In j (orderedBy key F) → In j F
   unfolding orderedBy
   in-orderedBy bare j m = m
   in-orderedBy (tree i k r) j m = go (in-place key i (orderedBy key k) (orderedBy key r) j m) (in-orderedBy k j) (in-orderedBy r j)
@@ -191,10 +191,10 @@ module _ (key : List ℕ) where
   size-orderedBy bare = refl
   size-orderedBy (tree i k r) = let a = size-place key i (orderedBy key k) (orderedBy key r) in let b = size-orderedBy k in let d = size-orderedBy r in omega arith
 
-  apart-both : (i : ℕ) (k r : Forest ℕ) → Apart (orderedBy key k) → Apart (orderedBy key r) → Apart (tree i k r) → Apart (tree i (orderedBy key k) (orderedBy key r))
+  pub apart-both : (i : ℕ) (k r : Forest ℕ) → Apart (orderedBy key k) → Apart (orderedBy key r) → Apart (tree i k r) → Apart (tree i (orderedBy key k) (orderedBy key r))
   apart-both i k r sk sr (ik, ir, kr, ak, ar) = ((λ m. ik (in-orderedBy k i m)), (λ m. ir (in-orderedBy r i m)), (λ j m m′. kr j (in-orderedBy k j m) (in-orderedBy r j m′)), sk, sr)
 
-  apart-orderedBy : (F : Forest ℕ) → Apart F → Apart (orderedBy key F)
+  pub apart-orderedBy : (F : Forest ℕ) → Apart F → Apart (orderedBy key F)
   unfolding orderedBy
   apart-orderedBy bare a = a
   apart-orderedBy (tree i k r) a = apart-place key i (orderedBy key k) (orderedBy key r) (apart-both i k r (apart-orderedBy k (a .3)) (apart-orderedBy r (a .4)) a)
@@ -229,110 +229,35 @@ module _ (key : List ℕ) where
   each-orderedBy P (tree i k r) (pi, pk, pr) =
       each-place P i (orderedBy key k) (orderedBy key r) (rw (width-orderedBy k) pi, each-orderedBy P k pk, each-orderedBy P r pr)
 
--- ------------------------------------------------------------------ one call of in_order
-pub ordered-none : (fs ns key : List ℕ) (c : ℕ) → Loose fs ns key c → length ns ≤ c → Ordered fs ns key c fs ns c
-ordered-none fs ns key c w h =
-    record { reads = rw (read-none fs ns c h) (unfold orderedBy in refl); finite = w .finite; low = w .low; firsts = refl; nexts = refl; rest = λ j m. (refl, refl) }
+-- ------------------------------------------------------------------ only the keys of its rows put a forest in order
+module _ (key key′ : List ℕ) where
+  abbrev Agree : Forest ℕ → Type 0
+  Agree F = (j : ℕ) → In j F → getD key′ j 0 ≡ getD key j 0
 
-module _ (fs ns key : List ℕ) (c : ℕ) (w : Loose fs ns key c) (l : c < length ns) (i : ℕ) (ei : i ≡ getD fs c 0) (low : i < 65536) where
-  abbrev o : Opens fs ns c
-  o = opens fs ns c (w .finite) l
+  cmp-agree : (F G : Forest ℕ) → Agree F → Agree G → cmpF key′ F G ≡ cmpF key F G
+  unfolding cmpF
+  cmp-agree bare bare a b = refl
+  cmp-agree bare (tree j l s) a b = refl
+  cmp-agree (tree i k r) bare a b = refl
+  cmp-agree (tree i k r) (tree j l s) a b =
+      rw (
+        a i (inl refl),
+        b j (inl refl),
+        cmp-agree k l (λ x m. a x (inr (inl m))) (λ x m. b x (inr (inl m))),
+        cmp-agree r s (λ x m. a x (inr (inr m))) (λ x m. b x (inr (inr m))),
+      )
 
-  abbrev K₀ : Forest ℕ
-  K₀ = forestAt fs ns (getD fs c 0)
+  place-agree : (i : ℕ) (k R : Forest ℕ) → getD key′ i 0 ≡ getD key i 0 → Agree k → Agree R → placeBy key′ i k R ≡ placeBy key i k R
+  unfolding placeBy
+  place-agree i k bare e a b = refl
+  place-agree i k (tree j l r) e a b =
+      rw (e, b j (inl refl), cmp-agree k l a (λ x m. b x (inr (inl m))), place-agree i k r e a (λ x m. b x (inr (inr m))))
 
-  abbrev R₀ : Forest ℕ
-  R₀ = forestAt fs ns (getD ns c 0)
-
-  all-apart : Apart (tree c K₀ R₀)
-  all-apart = rw (o .reads) at (w .apart)
-
-  all-small : size (tree c K₀ R₀) ≤ length ns
-  all-small = rw (o .reads) at (w .finite .small)
-
-  pub kids-loose : Loose fs ns key i
-  kids-loose = record { wide = w .wide; short = w .short; low = low; finite = rw ei (o .down); apart = rw ei (all-apart .3) }
-
-  module _ (fs₁ ns₁ : List ℕ) (k : ℕ) (O₁ : Ordered fs ns key i fs₁ ns₁ k) (fs₂ : List ℕ) (e₂ : fs₂ ≡ set fs₁ c k) (j : ℕ) (ej : j ≡ getD ns₁ c 0) (lowj : j < 65536) where
-    rest₁ : (x : ℕ) → (In x K₀ → ⊥) → (getD fs₁ x 0 ≡ getD fs x 0) × (getD ns₁ x 0 ≡ getD ns x 0)
-    rest₁ x = rw ei at (O₁ .rest x)
-
-    len₂ : length fs₂ ≡ length fs
-    len₂ = rw e₂ (length-set fs₁ c k ∙ O₁ .firsts)
-
-    at-j : j ≡ getD ns c 0
-    at-j = ej ∙ rest₁ c (all-apart .0) .1
-
-    -- what lies beside stays
-    beside : Linked fs₂ ns₁ j R₀
-    beside = rw at-j (kept fs ns fs₂ ns₁ (O₁ .nexts) R₀ (getD ns c 0) (λ x m. (rw e₂ (getD-set-other fs₁ c x k 0 (λ y. all-apart .1 (rw y at m)) ∙ rest₁ x (λ y. all-apart .2 x y m) .0), rest₁ x (λ y. all-apart .2 x y m) .1)) (o .along .holds))
-
-    reads-j : forestAt fs₂ ns₁ j ≡ R₀
-    reads-j = read-is fs₂ ns₁ j R₀ beside (rw (O₁ .nexts) (o .along .small))
-
-    pub rest-loose : Loose fs₂ ns₁ key j × (size (forestAt fs₂ ns₁ j) < size (forestAt fs ns c))
-    rest-loose = (
-      record {
-        wide = record { firsts = rw (O₁ .nexts, len₂) (w .wide .firsts); keys = rw (O₁ .nexts) (w .wide .keys) };
-        short = rw (O₁ .nexts) (w .short);
-        low = lowj;
-        finite = finite-of fs₂ ns₁ j R₀ beside (rw (O₁ .nexts) (o .along .small));
-        apart = rw reads-j (all-apart .4);
-      },
-      rw reads-j (let z = ap size (o .reads) in omega arith),
-    )
-
-    module _ (fs₃ ns₃ : List ℕ) (q : ℕ) (O₂ : Ordered fs₂ ns₁ key j fs₃ ns₃ q) where
-      rest₂ : (x : ℕ) → (In x R₀ → ⊥) → (getD fs₃ x 0 ≡ getD fs₂ x 0) × (getD ns₃ x 0 ≡ getD ns₁ x 0)
-      rest₂ x = rw reads-j at (O₂ .rest x)
-
-      reads-k : forestAt fs₁ ns₁ k ≡ orderedBy key K₀
-      reads-k = O₁ .reads ∙ ap (λ z. orderedBy key (forestAt fs ns z)) ei
-
-      len₃ : length ns₃ ≡ length ns
-      len₃ = O₂ .nexts ∙ O₁ .nexts
-
-      at-k : getD fs₃ c 0 ≡ k
-      at-k = rest₂ c (all-apart .1) .0 ∙ rw e₂ (getD-set-same fs₁ c k 0 (omega (arith, O₁ .firsts, w .wide .firsts)))
-
-      under : Linked fs₃ ns₃ k (orderedBy key K₀)
-      under = kept fs₁ ns₁ fs₃ ns₃ (O₂ .nexts) (orderedBy key K₀) k
-          (λ x m. let y = in-orderedBy key K₀ x m in let z = rest₂ x (λ u. all-apart .2 x y u) in
-          (z .0 ∙ rw e₂ (getD-set-other fs₁ c x k 0 (λ u. all-apart .0 (rw u at y))), z .1))
-          (rw reads-k at (O₁ .finite .holds))
-
-      small-k : size (orderedBy key K₀) ≤ length ns₃
-      small-k = rw (size-orderedBy key K₀, len₃) (o .down .small)
-
-      kids-are : forestAt fs₃ ns₃ (getD fs₃ c 0) ≡ orderedBy key K₀
-      kids-are = rw at-k (read-is fs₃ ns₃ k (orderedBy key K₀) under small-k)
-
-      list-is : forestAt fs₃ ns₃ q ≡ orderedBy key R₀
-      list-is = O₂ .reads ∙ ap (orderedBy key) reads-j
-
-      pub ready : Ready fs₃ ns₃ key c q
-      ready = record {
-        wide = record { firsts = rw (len₃, O₂ .firsts, len₂) (w .wide .firsts); keys = rw len₃ (w .wide .keys) };
-        inside = rw len₃ l;
-        short = rw len₃ (w .short);
-        low = O₂ .low;
-        kids = rw at-k (finite-of fs₃ ns₃ k (orderedBy key K₀) under small-k);
-        list = O₂ .finite;
-        apart = rw (kids-are, list-is) (apart-both key c K₀ R₀ (apart-orderedBy key K₀ (all-apart .3)) (apart-orderedBy key R₀ (all-apart .4)) all-apart);
-        room = rw (kids-are, list-is, size-orderedBy key K₀, size-orderedBy key R₀, len₃) all-small;
-      }
-
-      pub ordered-some : (ns₄ : List ℕ) (r : ℕ) → Placed fs₃ ns₃ key c q ns₄ r → Ordered fs ns key c fs₃ ns₄ r
-      ordered-some ns₄ r P = record {
-        reads = P .reads ∙ rw (kids-are, list-is, o .reads) (unfold orderedBy in refl);
-        finite = P .finite;
-        low = P .low;
-        firsts = O₂ .firsts ∙ len₂;
-        nexts = P .nexts ∙ len₃;
-        rest = λ x m. let y : In x (tree c K₀ R₀) → ⊥ = rw (o .reads) at m in
-            let a = rest₁ x (λ u. y (inr (inl u))) in
-            let b = rest₂ x (λ u. y (inr (inr u))) in (
-              b .0 ∙ rw e₂ (getD-set-other fs₁ c x k 0 (λ u. y (inl u))) ∙ a .0,
-              P .rest x (λ u. y (inl u)) (λ u. y (inr (inr (in-orderedBy key R₀ x (rw list-is at u))))) ∙ b .1 ∙ a .1,
-            );
-      }
+  pub order-agree : (F : Forest ℕ) → Agree F → orderedBy key′ F ≡ orderedBy key F
+  unfolding orderedBy
+  order-agree bare a = refl
+  order-agree (tree i k r) a =
+      rw (order-agree k (λ x m. a x (inr (inl m))), order-agree r (λ x m. a x (inr (inr m)))) (
+      place-agree i (orderedBy key k) (orderedBy key r) (a i (inl refl))
+      (λ x m. a x (inr (inl (in-orderedBy key k x m)))) (λ x m. a x (inr (inr (in-orderedBy key r x m))))
+      )

@@ -4,16 +4,14 @@ use mathlib.Core.Path.{_≡_, refl, sym, ap, _∙_}
 use mathlib.Core.List.{List, [], _∷_, _++_}
 use Prim.Native.Nat.{ℕ, zero, suc, _+_, _-_, _*_, _/_, _%_, _<_, _≤_}
 use native.Mathlib.Omega.{arith}
-use native.Mathlib.Decide.{ℕ-discrete, decLt}
-use lib.ListN.{length, getD, set}
-use lib.Seq.{getD-set-same, getD-set-other}
+use native.Mathlib.Decide.{decLt}
 use borrow.Author.Tests.{lt-ltb, le-ltb}
 use Rattle.meaning.specs.Basics.{pick}
 use Rattle.meaning.specs.Number.{numF, num}
 use Rattle.theory.proofs.Numbers.{num-back}
 use Rattle.order.specs.declared.Order.the-variants.{Before, After}
 use Rattle.order.specs.Links.{thenBy, cmpN}
-use Rattle.order.specs.Keys.{written, keyOf, Keys}
+use Rattle.order.specs.Keys.{written, keyOf}
 use Rattle.order.proofs.Comparing.{then-assoc, cmp-lt, cmp-gt, cmp-eq, pair-cmp, same-cmp, cmpL, cmp-same}
 
 -- ------------------------------------------------------------------ the bytes of a number
@@ -160,7 +158,7 @@ module _ (l m c l′ m′ c′ : ℕ) (ll : l < 2097152) (lm : m < 128) (lc : c 
   unfolding keyOf
   key-back e = let a = written-lt c lc in let a′ = written-lt c′ lc′ in written-back c c′ lc lc′ (omega arith)
 
--- ------------------------------------------------------------------ the keys in the making
+-- ------------------------------------------------------------------ the bytes in the making
 pub written-one : (x : ℕ) → x < 128 → (65536 * x ≡ written x) × (65536 * x < 16777216)
 unfolding written
 written-one x h = (sym (rw (lt-ltb x 128 h)), omega arith)
@@ -173,16 +171,3 @@ pub written-three : (x : ℕ) → 16384 ≤ x → x < 2097152
     → (65536 * (128 + x % 128) + 256 * (128 + x / 128 % 128) + x / 16384 ≡ written x) × (65536 * (128 + x % 128) + 256 * (128 + x / 128 % 128) + x / 16384 < 16777216)
 unfolding written
 written-three x h g = let z : 128 ≤ x = omega arith in (sym (rw (le-ltb x 128 z, le-ltb x 16384 h)), omega arith)
-
-pub keys-more : (code mark count key : List ℕ) (i : ℕ) → i < length key → Keys code mark count i key
-    → (l m c : ℕ) → l ≡ written (getD code i 0) → m ≡ getD mark i 0 → c ≡ written (getD count i 0)
-    → Keys code mark count (i + 1) (set key i ((l * 256 + m) * 16777216 + c))
-unfolding keyOf
-keys-more code mark count key i li w l m c el em ec x lx = go (ℕ-discrete x i)
-  where
-    v : ℕ
-    v = (l * 256 + m) * 16777216 + c
-
-    go : Dec (x ≡ i) → getD (set key i v) x 0 ≡ (written (getD code x 0) * 256 + getD mark x 0) * 16777216 + written (getD count x 0)
-    go (yes e) = rw (e, getD-set-same key i v 0 li, el, em, ec)
-    go (no d) = getD-set-other key i x v 0 d ∙ w x (omega arith)

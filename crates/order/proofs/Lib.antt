@@ -1,5 +1,6 @@
--- The way through, from below: comparisons and keys; the links that hold forests, and putting them in order; the forest that a table grows, gathered
--- into links; rows that show a forest; and what `image_rows` owes. Then the two tables that callers have: a tree query's, and rows themselves.
+-- The way through, from below: comparisons and keys; the links that hold forests, and putting a tree into its place; the forest that a table grows,
+-- gathered into links; rows that show a forest; brothers put in order from the last row to the first; and what `image_rows` and `tree_rows` owe. Then
+-- the two tables that callers have: a tree query's, and rows themselves.
 pub mod Comparing
 pub mod Keys
 pub mod Links
@@ -9,6 +10,7 @@ pub mod Growing
 pub mod Gathering
 pub mod LaidOut
 pub mod TableOrder
+pub mod Sorting
 pub mod ImageRows
 pub mod QueryTable
 pub mod RowsTable

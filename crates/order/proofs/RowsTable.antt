@@ -13,7 +13,7 @@ use borrow.Author.Tests.{eq-eqb, ne-eqb}
 use Rattle.meaning.specs.Tree.{Forest, bare, tree, size, plant}
 use Rattle.rows.specs.Rows.{tagAt, below, shape, mapT, treeRows, Holds, Hung, noRow, Rows}
 use Rattle.rows.proofs.Rows.{size-holds, holds-first, row-opens, rows-top, row-up}
-use Rattle.order.specs.Table.{childrenOf, grown, tableShape, tableTree, TreeTable}
+use Rattle.order.specs.Table.{childrenOf, grown, tableShape, tableTree, TreeTable, ParentsFirst}
 
 -- ------------------------------------------------------------------ children in rows
 -- the first nodes of the trees of a forest
@@ -191,3 +191,6 @@ module _ (code mark kids span up : List ℕ) (n : ℕ) (R : Rows code mark kids 
     where
       deeper : (c : ℕ) → c < n → 0 < c → getD up c 0 < c → depth n c ≡ suc (depth n (getD up c 0))
       deeper c l p u = depth-enough n (suc n) c l (omega arith) (omega arith) ∙ rw (ne-eqb c 0 (λ e. omega arith))
+
+  pub rows-first : ParentsFirst up n
+  rows-first = record { topFirst = λ l. rows-top code mark kids span up n R l .up-none; lower = λ c p l. row-up code mark kids span up n R c p l .0 }

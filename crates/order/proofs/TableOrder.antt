@@ -1,4 +1,4 @@
--- The tree of a table, put in order by its keys, is the table's tree in image order; rows that show it are that tree.
+-- The tree of a table, put in order by its keys, is the table's tree in image order; rows that show the tree in any order of brothers are that tree.
 use mathlib.Core.Path.{_≡_, refl, sym, ap, _∙_}
 use mathlib.Core.Logic.{_⊎_, inl, inr}
 use mathlib.Core.List.{List, [], _∷_}
@@ -11,10 +11,10 @@ use lib.Dec.{ltb, eqb}
 use borrow.Author.Tests.{eq-eqb, ne-eqb}
 use Rattle.meaning.specs.Tree.{Forest, bare, tree, size, plant}
 use Rattle.meaning.specs.Image.{labCode, markCode, ordered}
-use Rattle.rows.specs.Rows.{labOf, tagAt, shape, mapT, treeRows, width, Counted, noRow, Rows}
+use Rattle.rows.specs.Rows.{labOf, tagAt, shape, mapT, treeRows, Holds, width, Counted, noRow, Rows}
 use Rattle.rows.proofs.Rows.{holds-is}
 use Rattle.order.specs.Table.{childrenOf, grown, tableShape, tableTree, TreeTable}
-use Rattle.order.specs.Gathering.{Gathered}
+use Rattle.order.specs.Gathering.{Counts}
 use Rattle.order.specs.Keys.{Keys}
 use Rattle.order.specs.Links.{orderedBy}
 use Rattle.order.specs.LaidOut.{Shows, Borne}
@@ -70,7 +70,7 @@ module _ (parent code mark : List ℕ) (n : ℕ) (T : TreeTable parent code mark
       go i l (no d) = let h = T .linked i l d in (row-lev i l ∙ ap suc (h .1 ∙ sym (row-lev (getD parent i 0) (h .0))), inl (h .0))
 
   -- the whole tree has n nodes, and at most one top
-  size-shape : size (tableShape parent n) ≡ n
+  pub size-shape : size (tableShape parent n) ≡ n
   unfolding tableShape
   size-shape = size-grown parent n lev levels
 
@@ -83,10 +83,10 @@ module _ (parent code mark : List ℕ) (n : ℕ) (T : TreeTable parent code mark
   unfolding tableShape
   width-shape = rw (width-grown parent n (suc n) noRow (omega arith)) (one-top 0 (childrenOf noRow parent n 0) (all-children parent n noRow))
 
-  -- ---------------------------------------------------------------- what is gathered and keyed
-  module _ (fs ns count : List ℕ) (G : Gathered parent n 0 fs ns count) where
+  -- ---------------------------------------------------------------- rows that are counted
+  module _ (count : List ℕ) (C : Counts parent n 0 count) where
     count-is : (j : ℕ) → j < n → getD count j 0 ≡ length (childrenOf j parent n 0)
-    count-is j l = let z : n - 0 ≡ n = omega arith in rw (← slot-row n j l, z) at (G .counts j (inl l))
+    count-is j l = let z : n - 0 ≡ n = omega arith in rw (← slot-row n j l, z) at (C j (inl l))
 
     -- row j is a row of the table, and w is the number of its children
     abbrev pub Right : ℕ → ℕ → Type 0
@@ -114,10 +114,16 @@ module _ (parent code mark : List ℕ) (n : ℕ) (T : TreeTable parent code mark
     unfolding tableShape
     right-shape = right-grown (suc n) noRow (let z = end-lev noRow refl in omega arith)
 
-    each-counted : (F : Forest ℕ) → Each Right F → Counted count F
-    each-counted bare h = tt
-    each-counted (tree i k r) (hi, hk, hr) = (hi .1, each-counted k hk, each-counted r hr)
+    -- all rows of the table, each with as many children as it has, and at most one top
+    pub record Whole (F : Forest ℕ) : Type 0 where
+      pub right : Each Right F
+      pub all : size F ≡ n
+      pub narrow : width F ≤ 1
 
+    pub whole-shape : Whole (tableShape parent n)
+    whole-shape = record { right = right-shape; all = size-shape; narrow = width-shape }
+
+    -- ---------------------------------------------------------------- rows that are keyed
     module _ (key : List ℕ) (K : Keys code mark count n key) where
       right-keyed : (i w : ℕ) → Right i w → Keyed key (tagAt code mark) i w
       right-keyed i w (l, c) =
@@ -127,60 +133,64 @@ module _ (parent code mark : List ℕ) (n : ℕ) (T : TreeTable parent code mark
           let f = children-few parent i n 0 in
           record { is = K i l ∙ rw (a, b, c); low = rw a (let z = T .labels i l in omega arith); few = omega (arith, T .few) }
 
-      -- the table's tree in image order, as row numbers
-      abbrev sorted : Forest ℕ
-      sorted = orderedBy key (tableShape parent n)
-
-      tree-sorted : mapT (tagAt code mark) sorted ≡ ordered (tableTree parent code mark n)
+      pub tree-sorted : mapT (tagAt code mark) (orderedBy key (tableShape parent n)) ≡ ordered (tableTree parent code mark n)
       unfolding tableTree
       tree-sorted = ordered-by key (tagAt code mark) (tableShape parent n) (each-map Right (Keyed key (tagAt code mark)) right-keyed (tableShape parent n) right-shape)
 
-      pub size-sorted : size sorted ≡ n
-      size-sorted = size-orderedBy key (tableShape parent n) ∙ size-shape
+      pub whole-sorted : Whole (orderedBy key (tableShape parent n))
+      whole-sorted = record {
+        right = each-orderedBy key Right (tableShape parent n) right-shape;
+        all = size-orderedBy key (tableShape parent n) ∙ size-shape;
+        narrow = rw (width-orderedBy key (tableShape parent n)) width-shape;
+      }
 
-      -- ------------------------------------------------------------ rows that show it
-      right-sorted : Each Right sorted
-      right-sorted = each-orderedBy key Right (tableShape parent n) right-shape
+    -- ---------------------------------------------------------------- rows that show the whole
+    each-counted : (F : Forest ℕ) → Each Right F → Counted count F
+    each-counted bare h = tt
+    each-counted (tree i k r) (hi, hk, hr) = (hi .1, each-counted k hk, each-counted r hr)
 
-      row-right : (row up span : List ℕ) (u at : ℕ) (F : Forest ℕ) → Shows row up span u at F → Each Right F → (j : ℕ) → at ≤ j → j < at + size F → getD row j 0 < n
-      row-right row up span u at bare s h j l m = absurd (omega arith)
-      row-right row up span u at (tree i k r) (a, b, c, d, e) ((hi, w), hk, hr) j l m =
-          go (ℕ-discrete j at) (decLt j (suc at + size k)) (λ x y. row-right row up span at (suc at) k d hk j x y) (λ x y. row-right row up span u (suc at + size k) r e hr j x y)
-        where
-          go : Dec (j ≡ at) → Dec (j < suc at + size k) → (suc at ≤ j → j < suc at + size k → getD row j 0 < n)
-              → (suc at + size k ≤ j → j < suc at + size k + size r → getD row j 0 < n) → getD row j 0 < n
-          go (yes q) x f g = rw (q, a) hi
-          go (no q) (yes x) f g = f (omega arith) x
-          go (no q) (no x) f g = g (omega arith) (omega arith)
+    row-right : (row up span : List ℕ) (u at : ℕ) (F : Forest ℕ) → Shows row up span u at F → Each Right F → (j : ℕ) → at ≤ j → j < at + size F → getD row j 0 < n
+    row-right row up span u at bare s h j l m = absurd (omega arith)
+    row-right row up span u at (tree i k r) (a, b, c, d, e) ((hi, w), hk, hr) j l m =
+        go (ℕ-discrete j at) (decLt j (suc at + size k)) (λ x y. row-right row up span at (suc at) k d hk j x y) (λ x y. row-right row up span u (suc at + size k) r e hr j x y)
+      where
+        go : Dec (j ≡ at) → Dec (j < suc at + size k) → (suc at ≤ j → j < suc at + size k → getD row j 0 < n)
+            → (suc at + size k ≤ j → j < suc at + size k + size r → getD row j 0 < n) → getD row j 0 < n
+        go (yes q) x f g = rw (q, a) hi
+        go (no q) (yes x) f g = f (omega arith) x
+        go (no q) (no x) f g = g (omega arith) (omega arith)
 
-      module _ (row up span code′ mark′ kids : List ℕ) (S : Shows row up span noRow 0 sorted) where
-        pub row-lt : (j : ℕ) → j < n → getD row j 0 < n
-        row-lt j l = let z = size-sorted in row-right row up span noRow 0 sorted S right-sorted j (omega arith) (omega arith)
+    module _ (F : Forest ℕ) (W : Whole F) (row up span : List ℕ) (S : Shows row up span noRow 0 F) where
+      pub row-lt : (j : ℕ) → j < n → getD row j 0 < n
+      row-lt j l = let z = W .all in row-right row up span noRow 0 F S (W .right) j (omega arith) (omega arith)
 
-        shape-shown : shape span n ≡ numbered 0 sorted
-        unfolding shape
-        shape-shown = let z = size-sorted in holds-is n span 0 n (numbered 0 sorted) (holds-shown row up span noRow 0 n sorted S (omega arith)) (omega arith)
+      held : Holds span 0 n (numbered 0 F)
+      held = let z = W .all in holds-shown row up span noRow 0 n F S (omega arith)
 
-        module _ (B : Borne row code mark count n code′ mark′ kids) where
-          fits-n : 0 + size sorted ≤ n
-          fits-n = let z = size-sorted in omega arith
+      shape-shown : shape span n ≡ numbered 0 F
+      unfolding shape
+      shape-shown = holds-is n span 0 n (numbered 0 F) held (omega arith)
 
-          pub tree-rows : treeRows code′ mark′ span n ≡ ordered (tableTree parent code mark n)
-          unfolding treeRows
-          tree-rows = rw shape-shown (tags-shown row up span code mark count n code′ mark′ kids B noRow 0 sorted S fits-n ∙ tree-sorted)
+      module _ (code′ mark′ kids : List ℕ) (B : Borne row code mark count n code′ mark′ kids) where
+        fits-n : 0 + size F ≤ n
+        fits-n = let z = W .all in omega arith
 
-          pub are-rows : n ≤ length code′ → n ≤ length mark′ → n ≤ length kids → n ≤ length span → n ≤ length up → Rows code′ mark′ kids span up n
-          are-rows lc lm lk ls lu = record {
-            few = T .few;
-            codes = lc;
-            marks = lm;
-            counts = lk;
-            spans = ls;
-            ups = lu;
-            labels = λ u l. rw (B u l .0) (T .labels (getD row u 0) (row-lt u l));
-            marked = λ u l. rw (B u l .1) (T .marked (getD row u 0) (row-lt u l));
-            laid = rw shape-shown (let z = size-sorted in holds-shown row up span noRow 0 n sorted S (omega arith));
-            counted = rw shape-shown (counted-shown row up span code mark count n code′ mark′ kids B noRow 0 sorted S fits-n (each-counted sorted right-sorted));
-            hung = rw shape-shown (hung-shown row up span noRow 0 sorted S);
-            single = rw (shape-shown, width-numbered 0 sorted, width-orderedBy key (tableShape parent n)) width-shape;
-          }
+        pub tree-shown : treeRows code′ mark′ span n ≡ mapT (tagAt code mark) F
+        unfolding treeRows
+        tree-shown = rw shape-shown (tags-shown row up span code mark count n code′ mark′ kids B noRow 0 F S fits-n)
+
+        pub are-rows : n ≤ length code′ → n ≤ length mark′ → n ≤ length kids → n ≤ length span → n ≤ length up → Rows code′ mark′ kids span up n
+        are-rows lc lm lk ls lu = record {
+          few = T .few;
+          codes = lc;
+          marks = lm;
+          counts = lk;
+          spans = ls;
+          ups = lu;
+          labels = λ u l. rw (B u l .0) (T .labels (getD row u 0) (row-lt u l));
+          marked = λ u l. rw (B u l .1) (T .marked (getD row u 0) (row-lt u l));
+          laid = rw shape-shown held;
+          counted = rw shape-shown (counted-shown row up span code mark count n code′ mark′ kids B noRow 0 F S fits-n (each-counted F (W .right)));
+          hung = rw shape-shown (hung-shown row up span noRow 0 F S);
+          single = rw (shape-shown, width-numbered 0 F) (W .narrow);
+        }

@@ -37,7 +37,11 @@ pub record Slots (parent : List ℕ) (n : ℕ) (fs ns count : List ℕ) : Type 0
   pub counts : n < length count
   pub known : (i : ℕ) → i < n → Known n (getD parent i 0)
 
+-- for each parent the number of its children from row b on
+abbrev pub Counts : List ℕ → ℕ → ℕ → List ℕ → Type 0
+Counts parent n b count = (p : ℕ) → Known n p → getD count (slotOf n p) 0 ≡ length (childrenOf p parent (n - b) b)
+
 -- each parent has the list of its children from row b on, and their number
 pub record Gathered (parent : List ℕ) (n b : ℕ) (fs ns count : List ℕ) : Type 0 where
   pub lists : (p : ℕ) → Known n p → Run ns b (getD fs (slotOf n p) 0) (childrenOf p parent (n - b) b)
-  pub counts : (p : ℕ) → Known n p → getD count (slotOf n p) 0 ≡ length (childrenOf p parent (n - b) b)
+  pub counts : Counts parent n b count

@@ -3,10 +3,9 @@
 use mathlib.Core.Path.{_≡_}
 use mathlib.Core.Bool.{cond}
 use mathlib.Core.List.{List}
-use Prim.Native.Nat.{ℕ, suc, _+_, _*_, _/_, _%_, _≤_, _<_}
-use lib.ListN.{length, getD}
+use Prim.Native.Nat.{ℕ, _+_, _*_, _/_, _%_, _<_}
+use lib.ListN.{getD}
 use lib.Dec.{ltb}
-use Rattle.meaning.specs.Number.{largestLabel}
 
 -- the bytes of a number below 128 * 128 * 128, filled up to three, as one number
 unfoldable pub written : ℕ → ℕ
@@ -17,14 +16,6 @@ written n =
 -- the key of a row with label code l, mark m (one byte) and c children
 unfoldable pub keyOf : ℕ → ℕ → ℕ → ℕ
 keyOf l m c = (written l * 256 + m) * 16777216 + written c
-
--- the first n rows have label codes, marks and numbers of children that a key can hold
-pub record Keyable (code mark count : List ℕ) (n : ℕ) (key : List ℕ) : Type 0 where
-  pub codes : n ≤ length code
-  pub marks : n ≤ length mark
-  pub counts : n ≤ length count
-  pub keys : n ≤ length key
-  pub labels : (i : ℕ) → i < n → getD code i 0 ≤ suc largestLabel
 
 -- the first b rows have their keys
 abbrev pub Keys : List ℕ → List ℕ → List ℕ → ℕ → List ℕ → Type 0

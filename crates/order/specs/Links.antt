@@ -116,20 +116,3 @@ pub record Placed (fs ns key : List ℕ) (c q : ℕ) (ns′ : List ℕ) (r : ℕ
   pub low : r < 65536
   pub nexts : length ns′ ≡ length ns
   pub rest : (j : ℕ) → (j ≡ c → ⊥) → (In j (forestAt fs ns q) → ⊥) → getD ns′ j 0 ≡ getD ns j 0
-
--- the forest at c may be put in order
-pub record Loose (fs ns key : List ℕ) (c : ℕ) : Type 0 where
-  pub wide : Wide fs ns key
-  pub short : length ns < 65536
-  pub low : c < 65536
-  pub finite : Finite fs ns c
-  pub apart : Apart (forestAt fs ns c)
-
--- it was put in order, r is its first tree, and no other row was linked anew
-pub record Ordered (fs ns key : List ℕ) (c : ℕ) (fs′ ns′ : List ℕ) (r : ℕ) : Type 0 where
-  pub reads : forestAt fs′ ns′ r ≡ orderedBy key (forestAt fs ns c)
-  pub finite : Finite fs′ ns′ r
-  pub low : r < 65536
-  pub firsts : length fs′ ≡ length fs
-  pub nexts : length ns′ ≡ length ns
-  pub rest : (j : ℕ) → (In j (forestAt fs ns c) → ⊥) → (getD fs′ j 0 ≡ getD fs j 0) × (getD ns′ j 0 ≡ getD ns j 0)

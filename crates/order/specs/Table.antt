@@ -56,3 +56,8 @@ pub record TreeTable (parent code mark : List ℕ) (n : ℕ) : Type 0 where
   pub top : ℕ
   pub topLevel : level top ≡ 0
   pub single : (i : ℕ) → i < n → getD parent i 0 ≡ noRow → i ≡ top
+
+-- parents stand before their children: the top is row 0, and every other row's parent has a smaller number
+pub record ParentsFirst (parent : List ℕ) (n : ℕ) : Type 0 where
+  pub topFirst : 0 < n → getD parent 0 0 ≡ noRow
+  pub lower : (i : ℕ) → 0 < i → i < n → getD parent i 0 < i

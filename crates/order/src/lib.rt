@@ -1,16 +1,18 @@
 // Brothers in ascending byte order: from a table of parents to rows in image order.
-// The children of each row become a list (`first` has its first child, `next` the next brother), each list is put in order by insertion, and the
-// tree is then laid out as rows. A link that is not below next.len() leads nowhere, so the test for the end of a list is the test for its bounds.
+// The children of each row become a list (`first` has its first child, `next` the next brother), which is in order from the start: each row is put in
+// its place among its later brothers. The tree is then laid out as rows. A link that is not below next.len() leads nowhere, so the test for the end of
+// a list is the test for its bounds.
 // Two brothers are compared without writing their records out: one key a row stands for the first three numbers of its record.
 ghost use mathlib.Core.Path.{_≡_};
-ghost use Prim.Native.Nat.{ℕ, _+_, _<_, _≤_};
+ghost use Prim.Native.Nat.{ℕ, suc, _+_, _<_, _≤_};
 ghost use lib.ListN.{length, getD, set};
 ghost use Rattle.meaning.specs.Image.{ordered};
 ghost use Rattle.rows.specs.Rows.{Rows, treeRows};
-ghost use Rattle.order.specs.Table.{TreeTable, tableTree};
-ghost use Rattle.order.specs.Keys.{written, Keyable, Keys};
+ghost use Rattle.order.specs.Table.{TreeTable, ParentsFirst, tableTree};
+ghost use Rattle.order.specs.Keys.{written, keyOf};
 ghost use Rattle.order.specs.Gathering.{slotOf, Cleared, Slots, Gathered};
-ghost use Rattle.order.specs.Links.{Wide, Finite, forestAt, cmpF, goesFirst, spotOf, Ready, Placed, Loose, Ordered};
+ghost use Rattle.order.specs.Links.{Wide, Finite, forestAt, cmpF, goesFirst, spotOf, Ready, Placed};
+ghost use Rattle.order.specs.Sorting.{Sortable, Sorting, Sorted};
 ghost use Rattle.order.specs.LaidOut.{Roomy, Laid, Borne, Bearing};
 ghost use Rattle.order.specs.Contract.{Room};
 
@@ -107,19 +109,14 @@ fn wide8(x: u8) -> u64
     x as u64
 }
 
-// The key of each row: label code, mark and number of children, each as its bytes. A mark is one byte.
-fn make_keys(code: &[u32], mark: &[u8], count: &[u16], n: usize, key: &mut [u64])
-    requires { ⌜ Keyable (now code) (now mark) (now count) n (now key) ⌝ }
-    ensures { λ _. ⌜ Keys (now (code .entry)) (now (mark .entry)) (now (count .entry)) n (now (key .exit)) ⌝ }
+// The key of a row with label code l, mark m and c children: each as its bytes, and a mark is one byte.
+fn key_of(l: u32, m: u8, c: usize) -> u64
+    requires { ⌜ (l < 2097152) × (c < 2097152) ⌝ }
+    ensures { λ r. ⌜ r ≡ keyOf l m c ⌝ }
 {
-    let mut i: usize = 0;
-    while i < n {
-        let l = bytes_of(wide(code[i]));
-        let m = wide8(mark[i]);
-        let c = bytes_of(link(count, i) as u64);
-        key[i] = (l * 256 + m) * 16777216 + c;
-        i += 1;
-    }
+    let a = bytes_of(wide(l));
+    let b = wide8(m);
+    (a * 256 + b) * 16777216 + bytes_of(c as u64)
 }
 
 // The key of row i.
@@ -237,22 +234,50 @@ fn place(first: &[u16], next: &mut [u16], key: &[u64], c: usize, q: usize) -> us
     q
 }
 
-// Puts the forest at c in order, and returns its first tree. Insertion goes from the last brother to the first, so that a list which is in order
-// already costs one comparison a row.
-fn in_order(first: &mut [u16], next: &mut [u16], key: &[u64], c: usize) -> usize
-    requires { ⌜ Loose (now first) (now next) (now key) c ⌝ }
-    ensures { λ r. ⌜ Ordered (now (first .entry)) (now (next .entry)) (now (key .entry)) c (now (first .exit)) (now (next .exit)) r ⌝ }
+// Puts row i in its place among its later brothers.
+fn sort_row(
+    parent: &[u16],
+    code: &[u32],
+    mark: &[u8],
+    n: usize,
+    i: usize,
+    first: &mut [u16],
+    next: &mut [u16],
+    count: &mut [u16],
+    key: &mut [u64],
+)
+    requires { ⌜ (i < n) × Sortable (now parent) (now code) (now mark) n (now first) (now next) (now count) (now key) × Sorting (now parent) (now code) (now mark) n (suc i) (now first) (now next) (now count) (now key) ⌝ }
+    ensures { λ _. ⌜ Sorting (now (parent .entry)) (now (code .entry)) (now (mark .entry)) n i (now (first .exit)) (now (next .exit)) (now (count .exit)) (now (key .exit)) ⌝ }
 {
-    let n = next.len();
-    if n <= c {
-        return c;
+    key[i] = key_of(code[i], mark[i], link(count, i));
+    let p = slot(link(parent, i), n);
+    let h = link(first, p);
+    let q = place(first, next, key, i, h);
+    set_link(first, p, q);
+    let k = link(count, p);
+    set_link(count, p, k + 1);
+}
+
+// Puts all brothers in order, from the last row to the first: what lies below a row comes after it in the table, and is in order when the row is
+// placed. A list in order already costs one comparison a row.
+fn sort_rows(
+    parent: &[u16],
+    code: &[u32],
+    mark: &[u8],
+    n: usize,
+    first: &mut [u16],
+    next: &mut [u16],
+    count: &mut [u16],
+    key: &mut [u64],
+)
+    requires { ⌜ Sortable (now parent) (now code) (now mark) n (now first) (now next) (now count) (now key) × Cleared (n + 1) (now first) (now count) ⌝ }
+    ensures { λ _. ⌜ Sorted (now (parent .entry)) (now (code .entry)) (now (mark .entry)) n (now (first .exit)) (now (next .exit)) (now (count .exit)) (now (key .exit)) ⌝ }
+{
+    let mut i = n;
+    while 0 < i {
+        i -= 1;
+        sort_row(parent, code, mark, n, i, first, next, count, key);
     }
-    let i = link(first, c);
-    let k = in_order(first, next, key, i);
-    set_link(first, c, k);
-    let j = link(next, c);
-    let q = in_order(first, next, key, j);
-    place(first, next, key, c, q)
 }
 
 // ---------------------------------------------------------------- rows in image order
@@ -320,8 +345,8 @@ fn bear(
     }
 }
 
-// The tree of the first n rows of a table as rows in image order. parent[i] is the row of i's parent, 65535 at the top; the slices from `first` to
-// `row` are lent to work in, and what they are left with means nothing.
+// The tree of the first n rows of a table as rows in image order. parent[i] is the row of i's parent, which stands before row i, and 65535 at the top,
+// row 0; the slices from `first` to `row` are lent to work in, and what they are left with means nothing.
 pub fn image_rows(
     parent: &[u16],
     code: &[u32],
@@ -338,14 +363,38 @@ pub fn image_rows(
     span: &mut [u16],
     up: &mut [u16],
 )
-    requires { ⌜ TreeTable (now parent) (now code) (now mark) n × Room n (now first) (now next) (now count) (now key) (now row) (now «out_code») (now «out_mark») (now kids) (now span) (now up) ⌝ }
+    requires { ⌜ TreeTable (now parent) (now code) (now mark) n × Room n (now first) (now next) (now count) (now row) (now «out_code») (now «out_mark») (now kids) (now span) (now up) × (length (now next) ≤ length (now key)) × ParentsFirst (now parent) n ⌝ }
     ensures { λ _. ⌜ Rows (now («out_code» .exit)) (now («out_mark» .exit)) (now (kids .exit)) (now (span .exit)) (now (up .exit)) n × (treeRows (now («out_code» .exit)) (now («out_mark» .exit)) (now (span .exit)) n ≡ ordered (tableTree (now (parent .entry)) (now (code .entry)) (now (mark .entry)) n)) ⌝ }
 {
     clear(n, first, count);
-    gather(parent, n, first, next, count);
-    make_keys(code, mark, count, n, key);
+    sort_rows(parent, code, mark, n, first, next, count, key);
     let top = link(first, n);
-    let q = in_order(first, next, key, top);
-    lay(first, next, q, row, up, span);
+    lay(first, next, top, row, up, span);
+    bear(row, code, mark, count, n, out_code, out_mark, kids);
+}
+
+// The tree of the first n rows of a table, which stand in any order, as rows with brothers in the order of the table. The rest is as in `image_rows`.
+pub fn tree_rows(
+    parent: &[u16],
+    code: &[u32],
+    mark: &[u8],
+    n: usize,
+    first: &mut [u16],
+    next: &mut [u16],
+    count: &mut [u16],
+    row: &mut [u16],
+    out_code: &mut [u32],
+    out_mark: &mut [u8],
+    kids: &mut [u16],
+    span: &mut [u16],
+    up: &mut [u16],
+)
+    requires { ⌜ TreeTable (now parent) (now code) (now mark) n × Room n (now first) (now next) (now count) (now row) (now «out_code») (now «out_mark») (now kids) (now span) (now up) ⌝ }
+    ensures { λ _. ⌜ Rows (now («out_code» .exit)) (now («out_mark» .exit)) (now (kids .exit)) (now (span .exit)) (now (up .exit)) n × (treeRows (now («out_code» .exit)) (now («out_mark» .exit)) (now (span .exit)) n ≡ tableTree (now (parent .entry)) (now (code .entry)) (now (mark .entry)) n) ⌝ }
+{
+    clear(n, first, count);
+    gather(parent, n, first, next, count);
+    let top = link(first, n);
+    lay(first, next, top, row, up, span);
     bear(row, code, mark, count, n, out_code, out_mark, kids);
 }

@@ -1,6 +1,6 @@
-use borrow.Author.Needs.{needs}
 use mathlib.Core.Path.{_∙_}
-use Rattle.order.proofs.ImageRows.{slots, keyable, top-slot, loose, roomy, bearing, finished}
+use Rattle.order.proofs.TableOrder.{whole-sorted, tree-sorted}
+use Rattle.order.proofs.ImageRows.{sortable, roomy, bearing, finished}
 use borrow.Author.Needs.{needs}
 use Rattle.order.proofs.image_rows.Statement.{statement}
 use Rattle.order.proofs.image_rows.Tie as tie
@@ -8,131 +8,73 @@ use Rattle.order.proofs.image_rows.Reads as reads
 use Rattle.order.proofs.image_rows.Lts as lts
 use Rattle.order.proofs.bear.Reads as bear-reads
 use Rattle.order.proofs.clear.Reads as clear-reads
-use Rattle.order.proofs.gather.Reads as gather-reads
-use Rattle.order.proofs.in_order.Reads as in-order-reads
 use Rattle.order.proofs.lay.Reads as lay-reads
 use Rattle.order.proofs.link.Reads as link-reads
-use Rattle.order.proofs.make_keys.Reads as make-keys-reads
+use Rattle.order.proofs.sort_rows.Reads as sort-rows-reads
 
 clear-requires : tie.Need-clear-requires
 clear-requires c κs = search needs
 
-gather-requires : tie.Need-gather-requires
-gather-requires c κs =
-    let c1 = c .before .before .before .before .before .before .before in
+sort-rows-requires : tie.Need-sort-rows-requires
+sort-rows-requires c κs =
+    let c1 = c .before .before .before .before .before .before .before .before in
     let c2 = c1 .before .before .before .before .before .before .before .before .before .before .before .before .before .before .before .before in
     let s = c2 .pre in
     let k = c1 .clear in
-    slots _ _ _ _ _ _ _ _ _ _ _ _ _ _ s
-    (k .last .1 .0) (k .last .1 .1 .0) (k .ensures) (k .kept .1 .0) (k .kept .1 .1 .0)
-
-make-keys-requires : tie.Need-make-keys-requires
-make-keys-requires c κs =
-    let c1 = c .before .before .before .before .before .before .before .before in
-    let c2 = c1 .before .before .before .before .before .before .before .before in
-    let c3 = c2 .before .before .before .before .before .before .before .before .before .before .before .before .before .before .before .before in
-    let s = c3 .pre in
-    let k = c2 .clear in
-    let g = c1 .gather in
-    keyable _ _ _ _ _ _ _ _ _ _ _ _ _ _ s
-    (k .last .1 .0) (k .last .1 .1 .0) (k .ensures) (k .kept .1 .0) (k .kept .1 .1 .0)
-    _ _ _ (g .ensures) (g .kept .1 .1 .0) (g .kept .1 .1 .1 .0) (g .kept .1 .1 .1 .1 .0)
+    sortable _ _ _ _ _ _ _ _ _ _ _ _ _ (s .0) (s .1) (k .last .1 .0) (k .last .1 .1 .0) (k .ensures) (k .kept .1 .0) (k .kept .1 .1 .0) (s .3) _ (s .2)
 
 link-requires : tie.Need-link-requires
-link-requires c κs =
-    let c1 = c .before .before .before .before .before .before .before .before .before .before .before .before in
-    let c2 = c1 .before .before .before .before .before .before .before .before in
-    let c3 = c2 .before .before .before .before .before .before .before .before .before .before .before .before .before .before .before .before in
-    let s = c3 .pre in
-    let k = c2 .clear in
-    let g = c1 .gather in
-    top-slot _ _ _ _ _ _ _ _ _ _ _ _ _ _ s
-    (k .last .1 .0) (k .last .1 .1 .0) (k .ensures) (k .kept .1 .0) (k .kept .1 .1 .0)
-    _ _ _ (g .ensures) (g .kept .1 .1 .0) (g .kept .1 .1 .1 .0) (g .kept .1 .1 .1 .1 .0)
-
-in-order-requires : tie.Need-in-order-requires
-in-order-requires c κs =
-    let c1 = c .before .before .before in
-    let c2 = c1 .before .before .before .before in
-    let c3 = c2 .before .before .before .before .before .before .before .before .before in
-    let c4 = c3 .before .before .before .before .before .before .before .before in
-    let c5 = c4 .before .before .before .before .before .before .before .before .before .before .before .before .before .before .before .before in
-    let s = c5 .pre in
-    let k = c4 .clear in
-    let g = c3 .gather in
-    let m = c2 .make-keys in
-    let l = c1 .link in
-    loose _ _ _ _ _ _ _ _ _ _ _ _ _ _ s
-    (k .last .1 .0) (k .last .1 .1 .0) (k .ensures) (k .kept .1 .0) (k .kept .1 .1 .0)
-    _ _ _ (g .ensures) (g .kept .1 .1 .0) (g .kept .1 .1 .1 .0) (g .kept .1 .1 .1 .1 .0)
-    (m .last .1 .1 .1 .1 .0) (m .ensures) (m .kept .1 .1 .1 .1 .0) _ (l .ensures .0) (l .ensures .1)
+link-requires c κs = search needs
 
 lay-requires : tie.Need-lay-requires
 lay-requires c κs =
-    let c1 = c .before .before .before .before .before .before .before .before .before in
-    let c2 = c1 .before .before .before .before in
-    let c3 = c2 .before .before .before .before in
-    let c4 = c3 .before .before .before .before .before .before .before .before .before in
-    let c5 = c4 .before .before .before .before .before .before .before .before in
-    let c6 = c5 .before .before .before .before .before .before .before .before .before .before .before .before .before .before .before .before in
-    let s = c6 .pre in
-    let k = c5 .clear in
-    let g = c4 .gather in
-    let m = c3 .make-keys in
-    let l = c2 .link in
-    let o = c1 .in-order in
-    roomy _ _ _ _ _ _ _ _ _ _ _ _ _ _ s
-    (k .last .1 .0) (k .last .1 .1 .0) (k .ensures) (k .kept .1 .0) (k .kept .1 .1 .0)
-    _ _ _ (g .ensures) (g .kept .1 .1 .0) (g .kept .1 .1 .1 .0) (g .kept .1 .1 .1 .1 .0)
-    (m .last .1 .1 .1 .1 .0) (m .ensures) (m .kept .1 .1 .1 .1 .0) _ (l .ensures .0) (l .ensures .1)
-    _ _ _ (o .ensures)
+    let c1 = c .before .before .before .before .before in
+    let c2 = c1 .before .before .before .before .before .before .before .before .before .before in
+    let c3 = c2 .before .before .before .before .before .before .before .before .before in
+    let c4 = c3 .before .before .before .before .before .before .before .before .before .before .before .before .before .before .before .before in
+    let s = c4 .pre in
+    let k = c3 .clear in
+    let g = c2 .sort-rows in
+    let l = c1 .link in
+    let e = g .ensures in
+    let cs = g .last .1 .1 .1 .1 .1 .1 .0 in
+    roomy _ _ _ _ _ _ _ _ _ _ _ _ _ (s .0) (s .1) _ _ cs (g .kept .1 .1 .1 .1 .0 ∙ k .kept .1 .0) (g .kept .1 .1 .1 .1 .1 .0) (g .kept .1 .1 .1 .1 .1 .1 .0 ∙ k .kept .1 .1 .0) (e .counts)
+    _ (whole-sorted _ _ _ _ (s .0) cs (e .counts) (g .last .1 .1 .1 .1 .1 .1 .1 .0) (e .keys)) _ (rw (l .ensures .0) (e .reads)) (rw (l .ensures .0) (e .finite))
 
 bear-requires : tie.Need-bear-requires
 bear-requires c κs =
     let c1 = c .before .before .before .before .before .before .before .before .before .before .before in
-    let c2 = c1 .before .before .before .before .before .before .before .before .before .before in
-    let c3 = c2 .before .before .before .before in
-    let c4 = c3 .before .before .before .before in
-    let c5 = c4 .before .before .before .before .before .before .before .before .before in
-    let c6 = c5 .before .before .before .before .before .before .before .before in
-    let c7 = c6 .before .before .before .before .before .before .before .before .before .before .before .before .before .before .before .before in
-    let s = c7 .pre in
-    let k = c6 .clear in
-    let g = c5 .gather in
-    let m = c4 .make-keys in
-    let l = c3 .link in
-    let o = c2 .in-order in
+    let c2 = c1 .before .before .before .before .before .before in
+    let c3 = c2 .before .before .before .before .before .before .before .before .before .before in
+    let c4 = c3 .before .before .before .before .before .before .before .before .before in
+    let c5 = c4 .before .before .before .before .before .before .before .before .before .before .before .before .before .before .before .before in
+    let s = c5 .pre in
+    let k = c4 .clear in
+    let g = c3 .sort-rows in
+    let l = c2 .link in
     let a = c1 .lay in
-    bearing _ _ _ _ _ _ _ _ _ _ _ _ _ _ s
-    (k .last .1 .0) (k .last .1 .1 .0) (k .ensures) (k .kept .1 .0) (k .kept .1 .1 .0)
-    _ _ _ (g .ensures) (g .kept .1 .1 .0) (g .kept .1 .1 .1 .0) (g .kept .1 .1 .1 .1 .0)
-    (m .last .1 .1 .1 .1 .0) (m .ensures) (m .kept .1 .1 .1 .1 .0) _ (l .ensures .0) (l .ensures .1)
-    _ _ _ (o .ensures)
-    _ _ _ _ (a .ensures)
+    let e = g .ensures in
+    let cs = g .last .1 .1 .1 .1 .1 .1 .0 in
+    bearing _ _ _ _ _ _ _ _ _ _ _ _ _ (s .0) (s .1) _ _ cs (g .kept .1 .1 .1 .1 .0 ∙ k .kept .1 .0) (g .kept .1 .1 .1 .1 .1 .0) (g .kept .1 .1 .1 .1 .1 .1 .0 ∙ k .kept .1 .1 .0) (e .counts)
+    _ (whole-sorted _ _ _ _ (s .0) cs (e .counts) (g .last .1 .1 .1 .1 .1 .1 .1 .0) (e .keys)) _ (rw (l .ensures .0) (e .reads)) (rw (l .ensures .0) (e .finite)) _ _ _ _ (a .ensures)
 
 same-length : tie.Need-same-length
 same-length c =
-    let c1 = c .before .before .before .before .before .before .before .before .before .before .before .before .before .before .before .before .before .before .before .before .before .before .before .before .before .before .before .before in
-    let c2 = c1 .before .before .before .before .before .before .before .before .before .before .before .before .before .before .before .before .before in
-    let c3 = c2 .before .before .before .before .before .before .before .before in
-    c1 .in-order .kept .0 ∙ c2 .gather .kept .1 .1 .0 ∙ c3 .clear .kept .1 .0
+    let c1 = c .before .before .before .before .before .before .before .before .before .before .before .before .before .before .before .before .before .before .before .before .before .before .before .before .before .before .before .before .before .before .before .before .before .before in
+    let c2 = c1 .before .before .before .before .before .before .before .before .before in
+    c1 .sort-rows .kept .1 .1 .1 .1 .0 ∙ c2 .clear .kept .1 .0
 
 same-length-2 : tie.Need-same-length-2
-same-length-2 c =
-    let c1 = c .before .before .before .before .before .before .before .before .before .before .before .before .before .before .before .before .before .before .before .before .before .before .before .before .before .before .before .before in
-    let c2 = c1 .before .before .before .before .before .before .before .before .before .before .before .before .before .before .before .before .before in
-    c1 .in-order .kept .1 .0 ∙ c2 .gather .kept .1 .1 .1 .0
+same-length-2 c = search needs
 
 same-length-3 : tie.Need-same-length-3
 same-length-3 c =
-    let c1 = c .before .before .before .before .before .before .before .before .before .before .before .before .before .before .before .before .before .before .before .before .before .before .before .before .before .before .before .before .before .before .before .before .before .before .before .before .before .before .before .before .before .before .before .before .before in
-    let c2 = c1 .before .before .before .before .before .before .before .before in
-    c1 .gather .kept .1 .1 .1 .1 .0 ∙ c2 .clear .kept .1 .1 .0
+    let c1 = c .before .before .before .before .before .before .before .before .before .before .before .before .before .before .before .before .before .before .before .before .before .before .before .before .before .before .before .before .before .before .before .before .before .before in
+    let c2 = c1 .before .before .before .before .before .before .before .before .before in
+    c1 .sort-rows .kept .1 .1 .1 .1 .1 .1 .0 ∙ c2 .clear .kept .1 .1 .0
 
 same-length-4 : tie.Need-same-length-4
-same-length-4 c =
-    let c1 = c .before .before .before .before .before .before .before .before .before .before .before .before .before .before .before .before .before .before .before .before .before .before .before .before .before .before .before .before .before .before .before .before .before .before .before .before in
-    c1 .make-keys .kept .1 .1 .1 .1 .0
+same-length-4 c = search needs
 
 same-length-5 : tie.Need-same-length-5
 same-length-5 c = search needs
@@ -156,37 +98,30 @@ returns : tie.Need-returns
 returns c =
     let c1 = c .before .before .before .before .before .before in
     let c2 = c1 .before .before .before .before .before .before .before .before .before .before .before .before in
-    let c3 = c2 .before .before .before .before .before .before .before .before .before .before in
-    let c4 = c3 .before .before .before .before in
-    let c5 = c4 .before .before .before .before in
-    let c6 = c5 .before .before .before .before .before .before .before .before .before in
-    let c7 = c6 .before .before .before .before .before .before .before .before in
-    let c8 = c7 .before .before .before .before .before .before .before .before .before .before .before .before .before .before .before .before in
-    let s = c8 .pre in
-    let k = c7 .clear in
-    let g = c6 .gather in
-    let m = c5 .make-keys in
-    let l = c4 .link in
-    let o = c3 .in-order in
+    let c3 = c2 .before .before .before .before .before .before in
+    let c4 = c3 .before .before .before .before .before .before .before .before .before .before in
+    let c5 = c4 .before .before .before .before .before .before .before .before .before in
+    let c6 = c5 .before .before .before .before .before .before .before .before .before .before .before .before .before .before .before .before in
+    let s = c6 .pre in
+    let k = c5 .clear in
+    let g = c4 .sort-rows in
+    let l = c3 .link in
     let a = c2 .lay in
     let b = c1 .bear in
-    finished _ _ _ _ _ _ _ _ _ _ _ _ _ _ s
-    (k .last .1 .0) (k .last .1 .1 .0) (k .ensures) (k .kept .1 .0) (k .kept .1 .1 .0)
-    _ _ _ (g .ensures) (g .kept .1 .1 .0) (g .kept .1 .1 .1 .0) (g .kept .1 .1 .1 .1 .0)
-    (m .last .1 .1 .1 .1 .0) (m .ensures) (m .kept .1 .1 .1 .1 .0) _ (l .ensures .0) (l .ensures .1)
-    _ _ _ (o .ensures)
-    _ _ _ _ (a .ensures)
+    let e = g .ensures in
+    let cs = g .last .1 .1 .1 .1 .1 .1 .0 in
+    finished _ _ _ _ _ _ _ _ _ _ _ _ _ (s .0) (s .1) _ _ cs (g .kept .1 .1 .1 .1 .0 ∙ k .kept .1 .0) (g .kept .1 .1 .1 .1 .1 .0) (g .kept .1 .1 .1 .1 .1 .1 .0 ∙ k .kept .1 .1 .0) (e .counts)
+    _ (whole-sorted _ _ _ _ (s .0) cs (e .counts) (g .last .1 .1 .1 .1 .1 .1 .1 .0) (e .keys)) _ (rw (l .ensures .0) (e .reads)) (rw (l .ensures .0) (e .finite)) _ _ _ _ (a .ensures)
     (b .last .1 .1 .1 .1 .1 .0) (b .last .1 .1 .1 .1 .1 .1 .0) (b .last .1 .1 .1 .1 .1 .1 .1 .0) (b .ensures) (b .kept .1 .1 .1 .1 .1 .0) (b .kept .1 .1 .1 .1 .1 .1 .0) (b .kept .1 .1 .1 .1 .1 .1 .1 .0)
+    _ (tree-sorted _ _ _ _ (s .0) cs (e .counts) (g .last .1 .1 .1 .1 .1 .1 .1 .0) (e .keys))
 
 pub image-rows-spec : {M : Type 1} → statement M
 image-rows-spec =
     tie.close
     (tie.spec
     clear-requires
-    gather-requires
-    make-keys-requires
+    sort-rows-requires
     link-requires
-    in-order-requires
     lay-requires
     bear-requires
     same-length
