@@ -46,11 +46,3 @@ module _ (word code mark kids span up : List ℕ) (n : ℕ) (R : MinimalRows wor
       → r ≡ b → (b ≡ true) ↔ Takes (treeRows code mark span n) (docOf P L) m k
   unfolding may-ask
   pair-told m k r b E e = subst (λ x. (x ≡ true) ↔ Takes (treeRows code mark span n) (docOf P L) m k) e (E may-ask)
-
--- a number that is not 0
-pub positive : (n : ℕ) → (n ≡ 0 → ⊥) → 0 < n
-positive n ne = go n ne
-  where
-    go : (k : ℕ) → (k ≡ 0 → ⊥) → 0 < k
-    go zero e = absurd (e refl)
-    go (suc k) e = omega arith

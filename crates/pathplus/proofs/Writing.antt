@@ -15,13 +15,7 @@ use Rattle.meaning.specs.Word.{Outcome, refused, answered, andThen, readWord}
 use Rattle.meaning.specs.Promise.{fitting, written, lengthOf, roomAfter, Writes}
 use Rattle.groups.specs.Put.{put}
 use Rattle.groups.proofs.Put.{put-front}
-
-answered-same : {A : Type 0} (a b : A) → answered a ≡ answered b → a ≡ b
-answered-same {A = A} a b e = ap get e
-  where
-    get : Outcome A → A
-    get (refused n p) = a
-    get (answered x) = x
+use Rattle.tree.proofs.Laws.{answered-same}
 
 module _ (form : Option Query → List ℕ) (word room : List ℕ) where
   written-is : (o : Outcome Expr) → readWord word ≡ o → written form word room ≡ andThen o (λ e. fitting room (form (plain e)))

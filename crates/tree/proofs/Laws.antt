@@ -1,4 +1,4 @@
--- The table that gluing leaves is a tree that may be put in order, and its tree is the plain tree of the word.
+-- The table that gluing leaves is a tree, and it is the plain tree of the word.
 use mathlib.Core.Path.{_≡_, refl, sym, ap, subst, _∙_}
 use mathlib.Core.Bool.{Bool, true, false, cond}
 use mathlib.Core.Option.{Option, none, some}
@@ -14,7 +14,7 @@ use Rattle.meaning.specs.Number.{largestLabel}
 use Rattle.meaning.specs.TreeQuery.{Lab, any, lab, Row, node, Query, TreeQuery, Tree}
 use Rattle.meaning.specs.Gluing.{plain}
 use Rattle.meaning.specs.Tree.{Forest, bare, Tag, plainTree, treeOf}
-use Rattle.meaning.specs.Image.{markCode, ordered}
+use Rattle.meaning.specs.Image.{markCode}
 use Rattle.meaning.specs.Word.{Outcome, refused, answered, andThen, readWord}
 use Rattle.theory.proofs.Plain.{Means, AtMost, RowsIn, plain-means, few-nodes, plain-labels}
 use Rattle.theory.proofs.Limits.{InRange}
@@ -24,7 +24,7 @@ use Rattle.rows.specs.Rows.{Rows, treeRows, shape, brothers, mapT, labOf, noRow
 use Rattle.order.specs.Table.{TreeTable, tableTree, tableRows}
 use Rattle.order.proofs.QueryTable.{table-tree, table-of-tree}
 use Rattle.glue.specs.Rows.{parentOf, rowAt, listed, table, query, ifRows}
-use Rattle.tree.specs.Trees.{Accepted, Ends, PlainRows}
+use Rattle.tree.specs.Trees.{Accepted, Ends, BuiltRows}
 
 -- ------------------------------------------------------------------ marks
 -- what a decision is worth, where it is known
@@ -92,7 +92,7 @@ mark-small true false = omega arith
 mark-small false true = omega arith
 mark-small true true = omega arith
 
-answered-same : {A : Type 0} (a b : A) → answered a ≡ answered b → a ≡ b
+pub answered-same : {A : Type 0} (a b : A) → answered a ≡ answered b → a ≡ b
 answered-same {A = A} a b e = ap (get a) e
   where
     get : A → Outcome A → A
@@ -121,7 +121,7 @@ module _ (word P L : List ℕ) (n s d : ℕ) (acc : Accepted word)
       answered-same (plain e) (ifRows n (query n P L s d)) (subst (λ o. andThen o (λ f. answered (plain f)) ≡ answered (ifRows n (query n P L s d))) r built)
 
   -- no rows: the word is empty, and no rows are its tree
-  pub no-rows : n ≡ 0 → (code mark kids span up : List ℕ) → PlainRows word code mark kids span up 0
+  pub no-rows : n ≡ 0 → (code mark kids span up : List ℕ) → BuiltRows word code mark kids span up 0
   unfolding treeRows shape brothers mapT
   no-rows z code mark kids span up = record {
     rows = record {
@@ -138,7 +138,7 @@ module _ (word P L : List ℕ) (n s d : ℕ) (acc : Accepted word)
       hung = tt;
       single = omega arith;
     };
-    tree = λ e r. sym (ap (λ o. ordered (plainTree o)) (plain-built e r ∙ ap (λ k. ifRows k (query n P L s d)) z));
+    tree = λ e r. sym (ap plainTree (plain-built e r ∙ ap (λ k. ifRows k (query n P L s d)) z));
   }
 
   module _ (some-rows : 0 < n) where
@@ -176,8 +176,8 @@ module _ (word P L : List ℕ) (n s d : ℕ) (acc : Accepted word)
         i (parentOf (getD P i 0)) x (look-listed n i (rowAt P L) l ∙ ap (λ z. some (node (parentOf (getD P i 0)) z)) e)
 
     module _ (ends : List ℕ) (marks : Ends ends s d) (lp : n ≤ length P) (ll : n ≤ length L) (le : n ≤ length ends) where
-      pub may-order : TreeTable P L ends n
-      may-order = table-of-tree P L ends n few lp ll le labels
+      pub is-tree : TreeTable P L ends n
+      is-tree = table-of-tree P L ends n few lp ll le labels
           (λ i l. subst (λ z. z ≤ 3) (sym (marks i (omega arith))) (mark-small (is (ℕ-discrete i s)) (is (ℕ-discrete i d))))
           (subst Tree (table-is P L n) (means .tree))
 

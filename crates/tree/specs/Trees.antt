@@ -11,7 +11,6 @@ use Rattle.meaning.specs.Tree.{Forest, Tag, plainTree}
 use Rattle.meaning.specs.Image.{markCode, ordered, minimalTree}
 use Rattle.meaning.specs.Word.{answered, readWord}
 use Rattle.rows.specs.Rows.{Rows, treeRows}
-use Rattle.order.specs.Table.{tableTree}
 
 -- the word is accepted
 abbrev pub Accepted : List ℕ → Type 0
@@ -29,15 +28,21 @@ pub record Room (code mark kids span up : List ℕ) : Type 0 where
   pub spans : 256 ≤ length span
   pub ups : 256 ≤ length up
 
--- the n rows are the tree of a table, in image order
-pub record InOrder (parent label ends : List ℕ) (n : ℕ) (code mark kids span up : List ℕ) : Type 0 where
-  pub rows : Rows code mark kids span up n
-  pub tree : treeRows code mark span n ≡ ordered (tableTree parent label ends n)
+-- slices to work in: the starts and marks of pending operands, then the lists of children and the rows of a table
+pub record Lent (first next count row : List ℕ) : Type 0 where
+  pub firsts : 257 ≤ length first
+  pub nexts : length next ≡ 256
+  pub counts : 257 ≤ length count
+  pub rows : 256 ≤ length row
 
 -- the n rows are the tree that f makes of the word's expression
 pub record RowsOf (f : Expr → Forest Tag) (word code mark kids span up : List ℕ) (n : ℕ) : Type 0 where
   pub rows : Rows code mark kids span up n
   pub tree : (e : Expr) → readWord word ≡ answered e → treeRows code mark span n ≡ f e
+
+-- .. its plain tree as it is built
+abbrev pub BuiltRows : List ℕ → List ℕ → List ℕ → List ℕ → List ℕ → List ℕ → ℕ → Type 0
+BuiltRows = RowsOf (λ e. plainTree (plain e))
 
 -- .. its plain tree, its minimal tree, with brothers in image order
 abbrev pub PlainRows : List ℕ → List ℕ → List ℕ → List ℕ → List ℕ → List ℕ → ℕ → Type 0

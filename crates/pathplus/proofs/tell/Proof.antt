@@ -1,7 +1,8 @@
 use mathlib.Core.Path.{refl}
 use mathlib.Core.Bool.{true, false}
 use Rattle.pathplus.proofs.Asking.{selects-told}
-use Rattle.pathplus.proofs.Pairs.{none-taken, may-ask, pair-told, positive}
+use Rattle.tree.proofs.Laws.{positive}
+use Rattle.pathplus.proofs.Pairs.{none-taken, may-ask, pair-told}
 use borrow.Author.Needs.{needs}
 use Rattle.pathplus.proofs.tell.Statement.{statement}
 use Rattle.pathplus.proofs.tell.Tie as tie
