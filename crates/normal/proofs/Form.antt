@@ -14,9 +14,9 @@ use Rattle.theory.proofs.Labels.{LabIn, LabsIn}
 use Rattle.theory.proofs.Limits.{InRange, form-short}
 use Rattle.rows.specs.Rows.{labOf, tagAt, brothers, shape, mapT, treeRows, Holds, Rows}
 use Rattle.rows.proofs.Rows.{size-holds, size-rows, rows-top}
-use Rattle.groups.specs.Put.{put}
+use Rattle.groups.specs.Put.{put, Written}
 use Rattle.groups.proofs.Put.{put-nil}
-use Rattle.branches.specs.Joining.{fill, Written}
+use Rattle.branches.specs.Joining.{fill}
 use Rattle.branches.specs.Factors.{tagged}
 use Rattle.branches.proofs.Joining.{word-some, fill-nil, fill-first, written-is}
 use Rattle.normal.specs.Ways.{QueryRows, Lowest, Borne, bears, formAt}

@@ -12,7 +12,8 @@ use Rattle.meaning.specs.Number.{num}
 use Rattle.meaning.specs.Normal.{aboveFactor}
 use Rattle.rows.specs.Rows.{below}
 use Rattle.rows.proofs.Rows.{rows-top}
-use Rattle.branches.specs.Joining.{joint, fill, factor, Written}
+use Rattle.groups.specs.Put.{Written}
+use Rattle.branches.specs.Joining.{joint, fill, factor}
 use Rattle.branches.specs.Factors.{Row, ownAt}
 use Rattle.branches.proofs.Joining.{fill-nil, fill-one, fill-first, fill-parent, factor-first, factor-rest, factor-then, written-nil}
 use Rattle.branches.proofs.Joining.{written-is, written-then, written-length, first-fits, rest-fits, rest-done, Left, left-is, left-fits, left-step}

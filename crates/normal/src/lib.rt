@@ -7,8 +7,8 @@ ghost use Prim.Native.Nat.{_+_, _<_, _≤_};
 ghost use lib.ListN.{length, getD};
 ghost use Rattle.meaning.specs.Normal.{normal, aboveFactor, wordOf};
 ghost use Rattle.rows.specs.Rows.{treeRows, below};
-ghost use Rattle.groups.specs.Put.{put};
-ghost use Rattle.branches.specs.Joining.{fill, Written};
+ghost use Rattle.groups.specs.Put.{put, Written};
+ghost use Rattle.branches.specs.Joining.{fill};
 ghost use Rattle.branches.specs.Factors.{Row};
 ghost use Rattle.normal.specs.Ways.{QueryRows, Covers, Part, Pair, Climb, Lowest, Among, Borne, bears, upsAt, downsAt, wayAt, formAt};
 

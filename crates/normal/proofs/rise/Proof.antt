@@ -1,7 +1,8 @@
 -- The room has the factors of the way from s up to row x.
 use Prim.Native.Nat.{_≤_}
 use native.Mathlib.Omega.{arith}
-use Rattle.branches.specs.Joining.{fill, Written}
+use Rattle.groups.specs.Put.{Written}
+use Rattle.branches.specs.Joining.{fill}
 use Rattle.branches.proofs.Joining.{written-length}
 use Rattle.normal.specs.Ways.{Covers, upsAt}
 use Rattle.normal.proofs.Writing.{climb-row, rise-start, rise-less, rise-covers, rise-from, rise-own, rise-parent, rise-next}
