@@ -24,17 +24,18 @@ use Rattle.normal.proofs.Marks.{bears-src, bears-dst, count-find, tagge
 use Rattle.normal.proofs.Around.{factors-rows}
 
 -- ------------------------------------------------------------------ the word of some factors, or of none
-fill-short : (xs : List Expr) → length (fill 0 0 xs) ≤ length (wordOf (all xs))
-fill-short [] = omega (arith, ap length (fill-nil 0 0))
-fill-short (x ∷ xs) = omega (arith, ap length (fill-first 0 x xs))
+module _ (from : ℕ) where
+  fill-short : (xs : List Expr) → length (fill from from xs) ≤ length (wordOf (all xs))
+  fill-short [] = omega (arith, ap length (fill-nil from from))
+  fill-short (x ∷ xs) = omega (arith, ap length (fill-first from x xs))
 
-fill-word : (xs : List Expr) → (length (fill 0 0 xs) ≡ 0 → ⊥) → wordOf (all xs) ≡ fill 0 0 xs
-fill-word [] z = absurd (z (ap length (fill-nil 0 0)))
-fill-word (x ∷ xs) z = sym (fill-first 0 x xs)
+  fill-word : (xs : List Expr) → (length (fill from from xs) ≡ 0 → ⊥) → wordOf (all xs) ≡ fill from from xs
+  fill-word [] z = absurd (z (ap length (fill-nil from from)))
+  fill-word (x ∷ xs) z = sym (fill-first from x xs)
 
-fill-none : (xs : List Expr) → length (fill 0 0 xs) ≡ 0 → wordOf (all xs) ≡ 1 ∷ []
-fill-none [] z = refl
-fill-none (x ∷ xs) z = absurd (omega (arith, ap length (fill-first 0 x xs), word-some (all (x ∷ xs))))
+  fill-none : (xs : List Expr) → length (fill from from xs) ≡ 0 → wordOf (all xs) ≡ 1 ∷ []
+  fill-none [] z = refl
+  fill-none (x ∷ xs) z = absurd (omega (arith, ap length (fill-first from x xs), word-some (all (x ∷ xs))))
 
 no-bytes : (bs : List ℕ) → length bs ≡ 0 → bs ≡ []
 no-bytes [] e = refl
@@ -81,18 +82,21 @@ module _ {code mark kids span up : List ℕ} {n : ℕ} (Q : QueryRows code mark 
         ap (λ (F : Forest Tag). wordOf (normal F)) T
         ∙ ap wordOf (normal-rows (tagged code s d) z ∙ ap all (factors-rows R s d t l L))
 
-    pub form-fits : (m : ℕ) → length Word ≤ m → length (fill 0 0 (formAt code span s d t)) ≤ m
-    form-fits m l = omega (arith, ap length form-word, fill-short (formAt code span s d t))
+    module _ (from : ℕ) where
+      pub form-fits : (m : ℕ) → from + length Word ≤ m → from + length (fill from from (formAt code span s d t)) ≤ m
+      form-fits m l = omega (arith, ap length form-word, fill-short from (formAt code span s d t))
 
-    module _ {e₀ e : List ℕ} {end : ℕ} (w : Written e₀ 0 (fill 0 0 (formAt code span s d t)) e end) where
-      pub form-some : (end ≡ 0 → ⊥) → Written e₀ 0 Word e end
-      form-some z = written-is (sym (form-word ∙ fill-word (formAt code span s d t) (λ q. z (omega (arith, w .place))))) w
+      module _ {e₀ e : List ℕ} {end : ℕ} (w : Written e₀ from (fill from from (formAt code span s d t)) e end) where
+        pub form-some : (end ≡ from → ⊥) → Written e₀ from Word e end
+        form-some z = written-is (sym (form-word ∙ fill-word from (formAt code span s d t) (λ q. z (omega (arith, w .place))))) w
 
-      -- "With no factor at all the word is 1.": the room is still as it was
-      pub form-none : end ≡ 0 → (Word ≡ 1 ∷ []) × (e ≡ e₀)
-      form-none z =
-          let q : length (fill 0 0 (formAt code span s d t)) ≡ 0 = omega (arith, w .place) in
-          (form-word ∙ fill-none (formAt code span s d t) q, w .bytes ∙ ap (put e₀ 0) (no-bytes (fill 0 0 (formAt code span s d t)) q) ∙ put-nil e₀ 0)
+        -- "With no factor at all the word is 1.": the room is still as it was
+        pub form-none : end ≡ from → (Word ≡ 1 ∷ []) × (e ≡ e₀)
+        form-none z =
+            let q : length (fill from from (formAt code span s d t)) ≡ 0 = omega (arith, w .place) in (
+              form-word ∙ fill-none from (formAt code span s d t) q,
+              w .bytes ∙ ap (put e₀ from) (no-bytes (fill from from (formAt code span s d t)) q) ∙ put-nil e₀ from,
+            )
 
   -- ------------------------------------------------------------------ its length
   labs-rows : (u e : ℕ) (F : Forest ℕ) → Holds span u e F → e ≤ n → LabsIn InRange (mapT (tagAt code mark) F)
