@@ -31,6 +31,7 @@ use denote.RattleType.{RattleType, Denots, Valss, flat, owns}
 use denote.Laws.{Is, Are, Ises}
 use denote.Plain.{uint-makes, uint-vals, uint-tells, uint-copy}
 use denote.Builtin.{u8, u16, u32, usize, unit}
+use denote.Ref.{RefT, now}
 use denote.Slice.{sliceVal, MutSlice, ShrSlice, Room, slice-vals, mut-slice-tells, shr-slice-tells, shr-slice-copy}
 use denote.Steps.{only, owned, heard}
 use denote.Struct.Struct.{Copies, twices}
@@ -47,8 +48,9 @@ use denote.Signature.{plain}
 use Rattle.groups.specs.declared.Writer.{Writer}
 use Rattle.groups.specs.Put.{put}
 use Rattle.groups.proofs.Put.{length-put}
-use Rattle.groups.proofs.Lent.{WriterAt, roomOf, writerOf, roomVal, writerVal, cellOf, RoomOwn, Fits, LentOwn, Tokens, WriterLent}
-use Rattle.groups.proofs.Lent.{lends-writer, writer-back, chain, last-out, last-in, needs-both, both}
+use Rattle.groups.specs.Filled.{filled}
+use Rattle.groups.proofs.Lent.{WriterAt, roomVal, cellOf, RoomOwn, WriterOwn, Fits, localRef, Tokens, WriterLent, lends-writer, writer-back}
+use Rattle.groups.proofs.Lent.{chain, last-out, last-in, needs-both, both}
 use Rattle.meaning.specs.Normal.{normal, wordOf}
 use Rattle.rows.specs.Rows.{treeRows}
 use Rattle.normal.specs.Ways.{QueryRows}
@@ -78,7 +80,7 @@ stayed = (
 )
 
 -- the parameters before the room: code, mark, kids, span, up and n
-abbrev Rest : Lfts 6 → List RattleType
+abbrev Rest : Lfts 5 → List RattleType
 Rest κs =
     ShrSlice (named 0) (κs .0) u32 ∷ ShrSlice (named 1) (κs .1 .0) u8 ∷ ShrSlice (named 2) (κs .1 .1 .0) u16 ∷ ShrSlice (named 3)
     (κs .1 .1 .1 .0) u16 ∷ ShrSlice (named 4) (κs .1 .1 .1 .1 .0) u16 ∷ usize ∷ []
@@ -87,72 +89,38 @@ Rest κs =
 abbrev Callee : {M : Type 1} (𝓤 : URA M) (H : Heap 𝓤) (A : Atoms 𝓤) (mem : Memory → SProp 𝓤) (run : Routine → Fun 𝓤) → Contract 𝓤
 Callee 𝓤 H A mem run = tripleOf 𝓤 H A callee.signature (callee.spec 𝓤 H A mem run)
 
+-- the room x is lent for κ; κs are the lifetimes of the others
 module _ {M : Type 1} (𝓤 : URA M) (H : Heap 𝓤) (A : Atoms 𝓤) (W : Given 𝓤 H A) (at-mem : Memory → SProp 𝓤) (run : Routine → Fun 𝓤)
-    (κs : Lfts 6) (qs : Shares 6) (a : Args this.signature κs) where
-  -- the room: its lifetime and share, where it lies, its ghost name and its bytes
-  abbrev κ : Lft
-  κ = κs .1 .1 .1 .1 .1 .0
+    (κs : Lfts 5) (κ : Lft) (qs : Shares 5) (q : Share) (code mark kids span up : RefT (List ℕ)) (n : ℕ) (x : RefT (List ℕ)) where
+  -- the lifetimes and shares in their order
+  abbrev lfts : Lfts 6
+  lfts = (κs .0, (κs .1 .0, (κs .1 .1 .0, (κs .1 .1 .1 .0, (κs .1 .1 .1 .1 .0, (κ, tt))))))
 
-  abbrev q : Share
-  q = qs .1 .1 .1 .1 .1 .0
-
-  abbrev b : ℕ
-  b = a .1 .1 .1 .1 .1 .1 .0 .ptr .0
-
-  abbrev o : ℕ
-  o = a .1 .1 .1 .1 .1 .1 .0 .ptr .1
-
-  abbrev γ : GName
-  γ = a .1 .1 .1 .1 .1 .1 .0 .name
-
-  abbrev ys : List ℕ
-  ys = a .1 .1 .1 .1 .1 .1 .0 .now
-
-  -- the rows
-  abbrev code : List ℕ
-  code = a .0 .now
-
-  abbrev mark : List ℕ
-  mark = a .1 .0 .now
-
-  abbrev kids : List ℕ
-  kids = a .1 .1 .0 .now
-
-  abbrev span : List ℕ
-  span = a .1 .1 .1 .0 .now
-
-  abbrev up : List ℕ
-  up = a .1 .1 .1 .1 .0 .now
-
-  abbrev n : ℕ
-  n = a .1 .1 .1 .1 .1 .0
+  abbrev shares : Shares 6
+  shares = (qs .0, (qs .1 .0, (qs .1 .1 .0, (qs .1 .1 .1 .0, (qs .1 .1 .1 .1 .0, (q, tt))))))
 
   -- the parameters before the room, and the machine values
   abbrev rest : Denots (Rest κs)
-  rest = (a .0, (a .1 .0, (a .1 .1 .0, (a .1 .1 .1 .0, (a .1 .1 .1 .1 .0, (a .1 .1 .1 .1 .1 .0, tt))))))
+  rest = (code, (mark, (kids, (span, (up, (n, tt))))))
 
   abbrev vrest : Valss (Rest κs)
-  vrest = (
-    slice-vals (a .0),
-    (
-      slice-vals (a .1 .0),
-      (
-        slice-vals (a .1 .1 .0),
-        (slice-vals (a .1 .1 .1 .0), (slice-vals (a .1 .1 .1 .1 .0), (vint w64 n ∷ [], tt))),
-      ),
-    ),
-  )
+  vrest = (slice-vals code, (slice-vals mark, (slice-vals kids, (slice-vals span, (slice-vals up, (vint w64 n ∷ [], tt))))))
 
-  abbrev vals : Vals this.signature κs
-  vals =
-      (vrest .0, (vrest .1 .0, (vrest .1 .1 .0, (vrest .1 .1 .1 .0, (vrest .1 .1 .1 .1 .0, (vrest .1 .1 .1 .1 .1 .0, (roomVal b o ys ∷ [], tt)))))))
+  abbrev a : Args this.signature lfts
+  a = (code, (mark, (kids, (span, (up, (n, (x, tt)))))))
 
-  -- what is written, and the room with it
+  abbrev vals : Vals this.signature lfts
+  vals = (vrest .0, (vrest .1 .0, (vrest .1 .1 .0, (vrest .1 .1 .1 .0, (vrest .1 .1 .1 .1 .0, (vrest .1 .1 .1 .1 .1 .0, (roomVal x ∷ [], tt)))))))
+
+  -- what is written, the writer before and after it
   abbrev bs : List ℕ
-  bs = wordOf (normal (treeRows code mark span n))
+  bs = wordOf (normal (treeRows (now code) (now mark) (now span) n))
 
-  abbrev zs : List ℕ
-  zs = put ys 0 bs
+  abbrev before : Writer
+  before = record { room = x; length = 0 }
+
+  abbrev after : Writer
+  after = filled before bs
 
   -- the tokens before the room's, and what the parameters before it own
   abbrev Toks : List Fml
@@ -162,45 +130,32 @@ module _ {M : Type 1} (𝓤 : URA M) (H : Heap 𝓤) (A : Atoms 𝓤) (W : Given
 
   abbrev Owned : List Fml
   Owned =
-      ShrSlice (named 0) (κs .0) u32 .own (rest .0) (vrest .0) ∷ ShrSlice (named 1) (κs .1 .0) u8 .own (rest .1 .0) (vrest .1 .0) ∷ ShrSlice
-      (named 2) (κs .1 .1 .0) u16 .own (rest .1 .1 .0) (vrest .1 .1 .0) ∷ ShrSlice (named 3) (κs .1 .1 .1 .0) u16 .own (rest .1 .1 .1 .0)
-      (vrest .1 .1 .1 .0) ∷ ShrSlice (named 4) (κs .1 .1 .1 .1 .0) u16 .own (rest .1 .1 .1 .1 .0) (vrest .1 .1 .1 .1 .0) ∷ usize .own
-      (rest .1 .1 .1 .1 .1 .0) (vrest .1 .1 .1 .1 .1 .0) ∷ []
+      ShrSlice (named 0) (κs .0) u32 .own code (slice-vals code) ∷ ShrSlice (named 1) (κs .1 .0) u8 .own mark (slice-vals mark) ∷ ShrSlice
+      (named 2) (κs .1 .1 .0) u16 .own kids (slice-vals kids) ∷ ShrSlice (named 3) (κs .1 .1 .1 .0) u16 .own span (slice-vals span) ∷ ShrSlice
+      (named 4) (κs .1 .1 .1 .1 .0) u16 .own up (slice-vals up) ∷ usize .own n (vint w64 n ∷ []) ∷ []
 
   abbrev Others : Item 𝓤
   Others = ‵ (owns (Rest κs) rest vrest)
 
   abbrev Rows : Type 0
-  Rows = QueryRows code mark kids span up n
+  Rows = QueryRows (now code) (now mark) (now kids) (now span) (now up) n
 
   abbrev Short : Type 0
-  Short = length bs ≤ length ys
+  Short = length bs ≤ length (now x)
 
   abbrev Post : Val → SProp 𝓤
-  Post = walkOf 𝓤 H A this.ended stayed (this.clauses 𝓤 H A at-mem run) .post ((κs, qs, tt, a, vals), tt)
+  Post = walkOf 𝓤 H A this.ended stayed (this.clauses 𝓤 H A at-mem run) .post ((lfts, shares, tt, a, vals), tt)
 
   -- what the callee's triple binds outside: the writer in the local at l, lent for α and κ under the name δ
-  abbrev lfts : ℕ → Lfts 7
-  lfts α = (α ∷ κ, (κ, (κs .0, (κs .1 .0, (κs .1 .1 .0, (κs .1 .1 .1 .0, (κs .1 .1 .1 .1 .0, tt)))))))
-
-  abbrev passed : (α l : ℕ) → GName → Args callee.signature (lfts α)
-  passed α l δ = (record { ptr = (l, 0); name = δ; now = writerOf b o γ ys 0 }, rest)
+  abbrev passed : (α l : ℕ) → GName → Args callee.signature (α ∷ κ, (κ, κs))
+  passed α l δ = (localRef l δ before, rest)
 
   abbrev to : (α l : ℕ) → GName → Callee 𝓤 H A at-mem run .Ghost
-  to α l δ = (
-    (
-      lfts α,
-      (PosShare·left q, (PosShare·right q, (qs .0, (qs .1 .0, (qs .1 .1 .0, (qs .1 .1 .1 .0, (qs .1 .1 .1 .1 .0, tt))))))),
-      (meet-⊑-right (α ∷ []) κ, tt),
-      passed α l δ,
-      (vptr l 0 ∷ [], vrest),
-    ),
-    tt,
-  )
+  to α l δ =
+      (((α ∷ κ, (κ, κs)), (PosShare·left q, (PosShare·right q, qs)), (meet-⊑-right (α ∷ []) κ, tt), passed α l δ, (vptr l 0 ∷ [], vrest)), tt)
 
   abbrev Call : ℕ → ℕ → GName → List (Item 𝓤)
-  Call α l δ =
-      (Tokens 𝓤 H A W (named 5) κ q b o γ l α ⊛ ‵ (chain Toks ftrue)) ∷ ‵ (LentOwn 𝓤 H A W (named 5) (α ∷ κ) κ q q l 0 δ b o γ ys 0 ys 0) ∷ Others ∷ []
+  Call α l δ = (Tokens 𝓤 H A W (named 5) κ q l α ⊛ ‵ (chain Toks ftrue)) ∷ ‵ (WriterOwn (named 5) (α ∷ κ) κ (localRef l δ before)) ∷ Others ∷ []
 
   goes : Rows → Short → (α l : ℕ) (δ : GName) → ent 𝓤 (⋆ 𝓤 H A (Call α l δ)) (Callee 𝓤 H A at-mem run .pre (to α l δ))
   goes rows short α l δ =
@@ -208,18 +163,18 @@ module _ {M : Type 1} (𝓤 : URA M) (H : Heap 𝓤) (A : Atoms 𝓤) (W : Given
       move ! (1 ∷ 2 ∷ []) $ join ! $ move ! (1 ∷ 0 ∷ []) $ join ! $ frame ! $ fjoin ! $ done !
 
   abbrev End : List (Item 𝓤)
-  End = ‵ (RoomOwn 𝓤 H A W (named 5) κ b o γ zs) ∷ ‵ (flft κ q) ∷ ‵ (chain Toks ftrue) ∷ Others ∷ []
+  End = ‵ (RoomOwn (named 5) κ (after .room)) ∷ ‵ (flft κ q) ∷ ‵ (chain Toks ftrue) ∷ Others ∷ []
 
   -- what is had of the room at exit, at the machine value that was passed
   abbrev RoomEnd : Fml
-  RoomEnd = MutSlice (named 5) κ u8 .own (roomOf b o γ zs) (roomVal b o ys ∷ [])
+  RoomEnd = MutSlice (named 5) κ u8 .own (after .room) (roomVal x ∷ [])
 
   exits : (m : ℕ) → m < 2 ^ 64 → m ≡ length bs → ent 𝓤 (⋆ 𝓤 H A End) (Post (vint w64 m))
   exits m fits e =
-      qed W End ∵ suffices ! _ (ends-at 𝓤 H A this.ended stayed (this.clauses 𝓤 H A at-mem run) W ((κs, qs, tt, a, vals), tt) (vint w64 m) m
-      (tt, (tt, (tt, (tt, (tt, (tt, (zs, tt))))))) (tt, (tt, (tt, (tt, (tt, (tt, (length-put ys 0 bs, tt)))))))) $
-      suffices ! _ (both 𝓤 (m ≡ length bs) (zs ≡ put ys 0 bs) _ e refl) $
-      rewrite ! 0 (λ (k : ℕ). ‵ (MutSlice (named 5) κ u8 .own (roomOf b o γ zs) (sliceVal (b, o) k ∷ []))) (length-put ys 0 bs) refl $
+      qed W End ∵ suffices ! _ (ends-at 𝓤 H A this.ended stayed (this.clauses 𝓤 H A at-mem run) W ((lfts, shares, tt, a, vals), tt) (vint w64 m) m
+      (tt, (tt, (tt, (tt, (tt, (tt, (put (now x) 0 bs, tt))))))) (tt, (tt, (tt, (tt, (tt, (tt, (length-put (now x) 0 bs, tt)))))))) $
+      suffices ! _ (both 𝓤 (m ≡ length bs) (put (now x) 0 bs ≡ put (now x) 0 bs) _ e refl) $
+      rewrite ! 0 (λ (k : ℕ). ‵ (MutSlice (named 5) κ u8 .own (after .room) (sliceVal (x .ptr) k ∷ []))) (length-put (now x) 0 bs) refl $
       move ! (1 ∷ 2 ∷ []) $ use2 W (‵ (chain Toks (fsep (flft κ q) ftrue))) (last-in 𝓤 H A W (flft κ q) Toks) $ frame ! $
       use2 W (‵ (chain Owned (fsep RoomEnd ftrue))) (last-in 𝓤 H A W RoomEnd Owned) $ frame ! $
       owned ! usize (Is usize) (uint-makes 𝓤 H A W w64) m _ (refl, fits) $ done !
@@ -240,15 +195,15 @@ module _ {M : Type 1} (𝓤 : URA M) (H : Heap 𝓤) (A : Atoms 𝓤) (W : Given
   )
 
   -- the machine values in a row
-  abbrev flat-vals : List Val
-  flat-vals = flat (Rest κs ++ (MutSlice (named 5) κ u8 ∷ [])) vals
+  abbrev args : List Val
+  args = flat (Rest κs) vrest ++ (roomVal x ∷ [])
 
   module _ (C : Calls 𝓤 H) (Λ : Loops 𝓤 H) (fm : FmC 𝓤 H (W .laws) C) (known : Triple 𝓤 (C #callee) (Callee 𝓤 H A at-mem run)) where
-    walk : Are (Rest κs) (Ises (Rest κs)) rest vrest → Room u8 (length ys) → Rows → Short
-        → ent 𝓤 (onEntry 𝓤 H A this.signature κs qs a vals) (WpFn 𝓤 H C Λ body.function flat-vals Post)
-    walk are room rows short =
-        qed W (‵ (chain Toks (fsep (flft κ q) ftrue)) ∷ ‵ (chain Owned (fsep (RoomOwn 𝓤 H A W (named 5) κ b o γ ys) ftrue)) ∷ []) ∵
-        enter ! C Λ body.function flat-vals _ $
+    walk : Are (Rest κs) (Ises (Rest κs)) rest vrest → Room u8 (length (now x))
+        → ent 𝓤 (sep 𝓤 (onEntry 𝓤 H A this.signature lfts shares a vals) (sep 𝓤 (fact 𝓤 Rows) (fact 𝓤 Short))) (WpFn 𝓤 H C Λ body.function args Post)
+    walk are room = needs-both 𝓤 Rows Short _ (λ rows short.
+        qed W (‵ (chain Toks (fsep (flft κ q) ftrue)) ∷ ‵ (chain Owned (fsep (RoomOwn (named 5) κ x) ftrue)) ∷ []) ∵
+        enter ! C Λ body.function args _ $
         alloc1 ! (λ l₀. alloc1 ! (λ l₁. alloc1 ! (λ l₂. alloc1 ! (λ l₃. alloc1 !
         (λ l₄. alloc1 ! (λ l₅. alloc1 ! (λ l₆. alloc1 ! (λ l₇. alloc1 !
         (λ l₈. alloc1 ! (λ l₉. alloc1 ! (λ l₁₀. alloc1 ! (λ l₁₁. alloc1 ! (λ l₁₂. alloc0 ! $ params1 ! $
@@ -270,10 +225,9 @@ module _ {M : Type 1} (𝓤 : URA M) (H : Heap 𝓤) (A : Atoms 𝓤) (W : Given
         assigns ! (addr ! (from ! (stop !))) (from ! (stop !)) (init ! 0 refl (tt, tt)) $
         -- and lent
         move ! (26 ∷ []) $ use1 W (‵ (flft κ q) ⊛ ‵ (chain Toks ftrue)) (last-out 𝓤 H A W (flft κ q) Toks) $ split ! $
-        move ! (28 ∷ []) $ use1 W (‵ (RoomOwn 𝓤 H A W (named 5) κ b o γ ys) ⊛ Others)
-        (last-out 𝓤 H A W (RoomOwn 𝓤 H A W (named 5) κ b o γ ys) Owned) $ split ! $
-        move ! (12 ∷ 0 ∷ 2 ∷ []) $ use3 W (later (some (WriterLent 𝓤 H A W (named 5) κ q b o γ l₈ ys 0)))
-        (lends-writer 𝓤 H A W (named 5) κ q b o γ l₈ ys 0 (omega arith)) $
+        move ! (28 ∷ []) $ use1 W (‵ (RoomOwn (named 5) κ x) ⊛ Others) (last-out 𝓤 H A W (RoomOwn (named 5) κ x) Owned) $ split ! $
+        move ! (12 ∷ 0 ∷ 2 ∷ []) $ use3 W (later (some (WriterLent 𝓤 H A W (named 5) κ q l₈ before)))
+        (lends-writer 𝓤 H A W (named 5) κ q l₈ before (omega arith)) $
         await ! tt $ pick ! (λ z. split3 ! $
         -- [the reference; the writer's tokens; what is kept; what the others own; the other tokens; _12; …; _8's room; …; _1; …; room for _0; …]
         move ! (3 ∷ []) $ use1 W (Others ⊛ Others) (twices 𝓤 H A W (Rest κs) copies rest vrest) $ split ! $ move ! (3 ∷ 5 ∷ []) $ join ! $
@@ -286,20 +240,20 @@ module _ {M : Type 1} (𝓤 : URA M) (H : Heap 𝓤) (A : Atoms 𝓤) (W : Given
         (and-then ! (load ! (from ! (stop !)) (look ! 18 refl)) (and-then ! (load ! (from ! (stop !)) (look ! 16 refl))
         (and-then ! (load ! (from ! (stop !)) (look ! 14 refl)) (no-more !)))))))) (λ v.
         use1 W (later (some (λ (r : Unit {0}). ((‵ (flft (z .0 ∷ κ) (PosShare·left q)) ⊛ ‵ (flft κ (PosShare·right q)) ⊛ ‵ (chain Toks ftrue)) ⊛ ‵
-        (unit .own r (v ∷ []))) ⊛ raw (ensured 𝓤 H A callee.ended (callee.clauses 𝓤 H A at-mem run) (lfts (z .0))
+        (unit .own r (v ∷ []))) ⊛ raw (ensured 𝓤 H A callee.ended (callee.clauses 𝓤 H A at-mem run) (z .0 ∷ κ, (κ, κs))
         (passed (z .0) l₈ (z .1)) tt r)))) (id⊢ 𝓤 _) $
         await ! tt $ pick ! (λ r. split ! $ move ! (1 ∷ []) $
-        use1 W (some (λ (ws : Lasts callee.ended (lfts (z .0)) (passed (z .0) l₈ (z .1))). ‵
-        (lasts callee.ended (lfts (z .0)) (passed (z .0) l₈ (z .1)) ws) ⊛ raw (fact 𝓤 (ws .0 ≡ writerOf b o γ zs (0 + length bs))))) (id⊢ 𝓤 _) $
-        pick ! (λ ws. split ! $ move ! (1 ∷ []) $ heard ! (ws .0 ≡ writerOf b o γ zs (0 + length bs)) (λ e. fsplit ! $ move ! (2 ∷ []) $ split ! $
-        move ! (1 ∷ []) $ feqL ! (λ eu.
+        use1 W (some (λ (ws : Lasts callee.ended (z .0 ∷ κ, (κ, κs)) (passed (z .0) l₈ (z .1))). ‵
+        (lasts callee.ended (z .0 ∷ κ, (κ, κs)) (passed (z .0) l₈ (z .1)) ws) ⊛ raw (fact 𝓤 (ws .0 ≡ after)))) (id⊢ 𝓤 _) $
+        pick ! (λ ws. split ! $ move ! (1 ∷ []) $ heard ! (ws .0 ≡ after) (λ e. fsplit ! $ move ! (2 ∷ []) $ split ! $ move ! (1 ∷ []) $
+        feqL ! (λ eu.
         -- [the tokens; the writer's last value; …; what the others own; what is kept; _12; …]
         land ! (from ! (stop !)) (init ! 7 refl (subst (λ (y : Val). Holds (hasTy tyUnit y) × WT y) (sym (ap only eu)) (tt, tt))) $
         rewrite ! 1 (λ (h : Writer). ‵ (fres (z .1) (WriterAt (named 5) κ .coded .code h))) e refl $
         -- the writer comes back
         split3 ! $ join ! $ move ! (0 ∷ 5 ∷ 2 ∷ []) $
-        use3 W (later (given (Fits zs (0 + length bs)) (‵ (cellOf l₈ 0 (writerVal b o zs (0 + length bs))) ⊛ ‵
-        (RoomOwn 𝓤 H A W (named 5) κ b o γ zs) ⊛ ‵ (flft κ q)))) (writer-back 𝓤 H A W (named 5) κ q b o γ l₈ (z .0) (z .1) zs (0 + length bs)) $
+        use3 W (later (given (Fits after) (‵ (cellOf l₈ 0 after) ⊛ ‵ (RoomOwn (named 5) κ (after .room)) ⊛ ‵ (flft κ q))))
+        (writer-back 𝓤 H A W (named 5) κ q l₈ (z .0) (z .1) after) $
         await ! tt $ learn ! (λ fits. split3 ! $
         -- [the writer; the room; its token; the other tokens; …; what the others own; _12; …; _8's room; …; _1; …; room for _0; …]
         assigns ! (of-opd ! (load ! (from ! (fld ! refl (stop !))) (look-in ! 0 (sub ! 1 refl (whole !))))) (from ! (stop !))
@@ -310,7 +264,7 @@ module _ {M : Type 1} (𝓤 : URA M) (H : Heap 𝓤) (A : Atoms 𝓤) (W : Given
         move ! (21 ∷ 22 ∷ []) $ free1 ! $ move ! (19 ∷ 20 ∷ []) $ free1 ! $ move ! (17 ∷ 18 ∷ []) $ free1 ! $ move ! (15 ∷ 16 ∷ []) $ free1 ! $
         move ! (0 ∷ 14 ∷ []) $ free1 ! $ move ! (11 ∷ 12 ∷ []) $ free1 ! $ move ! (9 ∷ 10 ∷ []) $ free1 ! $ move ! (7 ∷ 8 ∷ []) $ free1 ! $
         move ! (5 ∷ 6 ∷ []) $ free1 ! $
-        free0 ! $ keep ! (0 ∷ 1 ∷ 2 ∷ 4 ∷ []) $ by ! (exits (0 + length bs) (fits .1) (omega arith))))))))))))))))))))))
+        free0 ! $ keep ! (0 ∷ 1 ∷ 2 ∷ 4 ∷ []) $ by ! (exits (after .length) (fits .1) (omega arith)))))))))))))))))))))))
 
 module _ {M : Type 1} (𝓤 : URA M) (H : Heap 𝓤) (A : Atoms 𝓤) (W : Given 𝓤 H A) (mem : Memory → SProp 𝓤) (run : Routine → Fun 𝓤) where
   walks : (C : Calls 𝓤 H) (Λ : Loops 𝓤 H) → FmC 𝓤 H (W .laws) C → Triple 𝓤 (C #callee) (Callee 𝓤 H A mem run)
@@ -331,14 +285,11 @@ module _ {M : Type 1} (𝓤 : URA M) (H : Heap 𝓤) (A : Atoms 𝓤) (W : Given
           ),
         ),
       ))
-      (λ κs qs bounds a g are. needs-both 𝓤 (Rows 𝓤 H A W mem run κs qs a) (Short 𝓤 H A W mem run κs qs a) _
-      (walk 𝓤 H A W mem run κs qs a C Λ fm known (
-        are .0,
-        (
-          are .1 .0,
-          (are .1 .1 .0, (are .1 .1 .1 .0, (are .1 .1 .1 .1 .0, (are .1 .1 .1 .1 .1 .0, tt)))),
-        ),
-      ) (are .1 .1 .1 .1 .1 .1 .0 .0 .1)))
+      (λ κs qs bounds a g are. walk 𝓤 H A W mem run
+      (κs .0, (κs .1 .0, (κs .1 .1 .0, (κs .1 .1 .1 .0, (κs .1 .1 .1 .1 .0, tt))))) (κs .1 .1 .1 .1 .1 .0)
+      (qs .0, (qs .1 .0, (qs .1 .1 .0, (qs .1 .1 .1 .0, (qs .1 .1 .1 .1 .0, tt))))) (qs .1 .1 .1 .1 .1 .0)
+      (a .0) (a .1 .0) (a .1 .1 .0) (a .1 .1 .1 .0) (a .1 .1 .1 .1 .0) (a .1 .1 .1 .1 .1 .0) (a .1 .1 .1 .1 .1 .1 .0) C Λ fm known
+      (are .0, (are .1 .0, (are .1 .1 .0, (are .1 .1 .1 .0, (are .1 .1 .1 .1 .0, (are .1 .1 .1 .1 .1 .0, tt)))))) (are .1 .1 .1 .1 .1 .1 .0 .0 .1))
 
   meets : (𝓣 : Tables 𝓤 H) → Triple 𝓤 (𝓣 .C #callee) (Callee 𝓤 H A mem run)
       → Meets 𝓤 H A this.signature (WpFn 𝓤 H (𝓣 .C) (𝓣 .Λ) body.function) (this.spec 𝓤 H A mem run)
