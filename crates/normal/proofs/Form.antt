@@ -1,19 +1,16 @@
--- The normal form of rows: its factors are those of the ways, "with no factor at all the word is 1", and it has at most 2,048 bytes.
+-- The normal form of rows: its factors are those of the ways, and "with no factor at all the word is 1".
 use mathlib.Core.Path.{_≡_, refl, sym, ap, _∙_}
 use mathlib.Core.Bool.{true}
 use mathlib.Core.List.{List, [], _∷_}
-use Prim.Native.Nat.{ℕ, zero, suc, _+_, _≤_, _<_}
+use Prim.Native.Nat.{ℕ, _+_, _≤_, _<_}
 use native.Mathlib.Omega.{arith}
-use lib.ListN.{length, getD}
+use lib.ListN.{length}
 use Rattle.meaning.specs.Expression.{Expr}
-use Rattle.meaning.specs.Number.{largestLabel}
-use Rattle.meaning.specs.Tree.{Forest, bare, tree, Tag, size}
+use Rattle.meaning.specs.Tree.{Forest, Tag}
 use Rattle.meaning.specs.Normal.{all, factors, normal, wordOf}
 use Rattle.theory.proofs.Count.{src, dst}
-use Rattle.theory.proofs.Labels.{LabIn, LabsIn}
-use Rattle.theory.proofs.Limits.{InRange, form-short}
-use Rattle.rows.specs.Rows.{labOf, tagAt, brothers, shape, mapT, treeRows, Holds, Rows}
-use Rattle.rows.proofs.Rows.{size-holds, size-rows, rows-top}
+use Rattle.rows.specs.Rows.{tagAt, brothers, shape, mapT, treeRows, Rows}
+use Rattle.rows.proofs.Rows.{rows-top}
 use Rattle.groups.specs.Put.{put, Written}
 use Rattle.groups.proofs.Put.{put-nil}
 use Rattle.branches.specs.Joining.{fill}
@@ -74,7 +71,7 @@ module _ {code mark kids span up : List ℕ} {n : ℕ} (Q : QueryRows code mark 
   normal-rows f l = rw (rows-top code mark kids span up n R l .shape-is)
 
   module _ (s d : ℕ) (bs : (s < n) × (bears mark 1 s ≡ true)) (bd : (d < n) × (bears mark 2 d ≡ true)) (t : ℕ) (L : Lowest span s d t) where
-    form-word : Word ≡ wordOf (all (formAt code span s d t))
+    pub form-word : Word ≡ wordOf (all (formAt code span s d t))
     form-word =
         let z : 0 < n = omega (arith, bs .0) in
         let T = tagged-rows R (Q .one-src z) (Q .one-dst z) s d (bs .0) (bd .0) (bs .1) (bd .1) in
@@ -97,23 +94,3 @@ module _ {code mark kids span up : List ℕ} {n : ℕ} (Q : QueryRows code mark 
               form-word ∙ fill-none from (formAt code span s d t) q,
               w .bytes ∙ ap (put e₀ from) (no-bytes (fill from from (formAt code span s d t)) q) ∙ put-nil e₀ from,
             )
-
-  -- ------------------------------------------------------------------ its length
-  labs-rows : (u e : ℕ) (F : Forest ℕ) → Holds span u e F → e ≤ n → LabsIn InRange (mapT (tagAt code mark) F)
-  unfolding mapT
-  labs-rows u e bare h l = tt
-  labs-rows u e (tree i k r) h l =
-      let w = size-holds span u e (tree i k r) h in
-      let v = size-holds span (suc i + size k) e r (h .3) in
-      (go (getD code i 0) (R .labels i (omega (arith, h .0))), labs-rows (suc i) (suc i + size k) k (h .2) (omega arith), labs-rows (suc i + size k) e r (h .3) l)
-    where
-      go : (c : ℕ) → c ≤ suc largestLabel → LabIn InRange (labOf c)
-      go zero m = tt
-      go (suc c) m = omega arith
-
-  -- "The normal form has at most 2,048 bytes."
-  pub form-room : length Word ≤ 2048
-  unfolding treeRows
-  form-room =
-      let s = size-rows span n (R .laid) code mark in
-      form-short (treeRows code mark span n) (labs-rows 0 n (shape span n) (R .laid) (omega arith)) (omega (arith, R .few))

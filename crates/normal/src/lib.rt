@@ -7,12 +7,13 @@ ghost use mathlib.Core.List.{[]};
 ghost use Prim.Native.Nat.{_+_, _<_, _≤_};
 ghost use lib.ListN.{length, getD};
 ghost use Rattle.meaning.specs.Normal.{normal, aboveFactor, wordOf};
-ghost use Rattle.rows.specs.Rows.{treeRows, below};
+ghost use Rattle.rows.specs.Rows.{labOf, treeRows, below};
 ghost use Rattle.groups.specs.Put.{put, Written};
 ghost use Rattle.groups.specs.Filled.{filled};
 ghost use Rattle.branches.specs.Joining.{fill};
 ghost use Rattle.branches.specs.Factors.{Row};
-ghost use Rattle.normal.specs.Ways.{QueryRows, Covers, Part, Pair, Climb, Lowest, Among, Borne, bears, upsAt, downsAt, wayAt, formAt};
+ghost use Rattle.normal.specs.Ways.{QueryRows, Unmarked, Covers, Part, Pair, Climb, Lowest, Among, Borne, bears, upsAt, downsAt, wayAt, formAt};
+ghost use Rattle.normal.specs.Weight.{labWeight, onWay, branching, rowWeight, rowsWeight};
 
 // The row that is s (bit 1), or d (bit 2).
 fn marked(mark: &[u8], n: usize, bit: u8) -> usize
@@ -236,7 +237,87 @@ pub fn write_form(
     w.length
 }
 
-// The length of the normal form, found by writing it where there is always room for it: "The normal form has at most 2,048 bytes."
+// A label's sign and the sign that joins it; a wildcard has none.
+fn label_weight(x: u32) -> usize
+    requires { ⌜ x ≤ 65536 ⌝ }
+    ensures { λ r. ⌜ (r ≡ labWeight (labOf x)) × (r ≤ 4) ⌝ }
+{
+    if x == 0 {
+        return 0;
+    }
+    groups::number_length(8 + x) + 1
+}
+
+// Row c is on the way to s or to d.
+fn on_way(span: &[u16], s: usize, d: usize, c: usize) -> bool
+    requires { ⌜ (c < length (now span)) × (c < 256) ⌝ }
+    ensures { λ r. ⌜ r ≡ onWay (now (span .entry)) s d c ⌝ }
+{
+    if branches::holds(span, c, s) {
+        return true;
+    }
+    branches::holds(span, c, d)
+}
+
+// The children of row p that are off the ways are branches of their own.
+fn branches_at(kids: &[u16], span: &[u16], s: usize, d: usize, p: usize) -> bool
+    requires { ⌜ (p < length (now kids)) × (p < length (now span)) × (p < 256) ⌝ }
+    ensures { λ r. ⌜ r ≡ branching (now (kids .entry)) (now (span .entry)) s d p ⌝ }
+{
+    if on_way(span, s, d, p) {
+        return true;
+    }
+    1 < kids[p]
+}
+
+// What row u adds: its label, and, but for the top, its step and the projection of a branch.
+fn row_weight(
+    code: &[u32],
+    kids: &[u16],
+    span: &[u16],
+    up: &[u16],
+    s: usize,
+    d: usize,
+    u: usize,
+) -> usize
+    requires { ⌜ Climb (now code) (now kids) (now span) (now up) u u ⌝ }
+    ensures { λ r. ⌜ (r ≡ rowWeight (now (code .entry)) (now (kids .entry)) (now (span .entry)) (now (up .entry)) s d u) × (r ≤ 7) ⌝ }
+{
+    let own = label_weight(code[u]);
+    if u == 0 {
+        return own;
+    }
+    if on_way(span, s, d, u) {
+        return own + 2;
+    }
+    if branches_at(kids, span, s, d, parent(up, u)) {
+        return own + 3;
+    }
+    own + 2
+}
+
+// What all rows add.
+fn rows_weight(
+    code: &[u32],
+    kids: &[u16],
+    span: &[u16],
+    up: &[u16],
+    s: usize,
+    d: usize,
+    n: usize,
+) -> usize
+    requires { ⌜ Unmarked (now code) (now kids) (now span) (now up) n ⌝ }
+    ensures { λ r. ⌜ r ≡ rowsWeight (now (code .entry)) (now (kids .entry)) (now (span .entry)) (now (up .entry)) s d n 0 ⌝ }
+{
+    let mut weight: usize = 0;
+    for u in 0..n {
+        weight += row_weight(code, kids, span, up, s, d, u);
+    }
+    weight
+}
+
+// The length of the normal form, counted row by row. The first factor is joined to nothing, which takes one sign away; if t is not the top, there is
+// one second projection, which puts it back.
 pub fn form_length(
     code: &[u32],
     mark: &[u8],
@@ -248,6 +329,18 @@ pub fn form_length(
     requires { ⌜ QueryRows (now code) (now mark) (now kids) (now span) (now up) n ⌝ }
     ensures { λ r. ⌜ r ≡ length (wordOf (normal (treeRows (now (code .entry)) (now (mark .entry)) (now (span .entry)) n))) ⌝ }
 {
-    let mut room = [0u8; 2048];
-    write_form(code, mark, kids, span, up, n, &mut room)
+    if n == 0 {
+        return 1;
+    }
+    let s = marked(mark, n, 1);
+    let d = marked(mark, n, 2);
+    let t = lowest(span, up, s, d);
+    let weight = rows_weight(code, kids, span, up, s, d, n);
+    if t != 0 {
+        return weight;
+    }
+    if weight == 0 {
+        return 1;
+    }
+    weight - 1
 }
