@@ -12,9 +12,9 @@ use Rattle.meaning.specs.Basics.{pick}
 use Rattle.meaning.specs.Expression.{Expr, empty, self, child, parent, label, comp, inter, proj1, proj2, inv}
 use Rattle.meaning.specs.Number.{numF, num}
 use Rattle.meaning.specs.Normal.{joined, all, wordOf}
-use Rattle.groups.specs.Put.{put}
+use Rattle.groups.specs.Put.{put, Written}
 use Rattle.groups.proofs.Put.{length-put, put-nil, put-append}
-use Rattle.branches.specs.Joining.{joint, run, fill, factor, Written}
+use Rattle.branches.specs.Joining.{joint, run, fill, factor}
 
 -- ------------------------------------------------------------------ words and their bytes
 num-some : (n : ℕ) → 1 ≤ length (num n)

@@ -1,13 +1,10 @@
 -- Factors as bytes, "joined from the left (x y 4 z 4)", in a room that has some of them already.
-use mathlib.Core.Path.{_≡_}
 use mathlib.Core.Bool.{Bool, true, cond}
 use mathlib.Core.List.{List, [], _∷_, _++_}
-use Prim.Native.Nat.{ℕ, _+_}
-use lib.ListN.{length}
+use Prim.Native.Nat.{ℕ}
 use lib.Dec.{ltb}
 use Rattle.meaning.specs.Expression.{Expr}
 use Rattle.meaning.specs.Normal.{wordOf}
-use Rattle.groups.specs.Put.{put}
 
 -- the sign that joins a factor to those before it; the first of all is joined to nothing
 abbrev pub joint : Bool → List ℕ
@@ -26,8 +23,3 @@ fill from at xs = run (ltb from at) xs
 -- the bytes of one such factor and the sign that joins it
 unfoldable pub factor : ℕ → ℕ → List ℕ → List ℕ
 factor from at bs = bs ++ joint (ltb from at)
-
--- bs were written into the room d from place `at` on: e is the room afterwards, r the place behind them
-pub record Written (d : List ℕ) (at : ℕ) (bs e : List ℕ) (r : ℕ) : Type 0 where
-  pub place : r ≡ at + length bs
-  pub bytes : e ≡ put d at bs

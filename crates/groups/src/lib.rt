@@ -1,10 +1,17 @@
-// Bytes into a lent room: one byte, or a number "in seven-bit groups, the shortest writing". Each writer says where the next byte goes.
+// Bytes into a lent room: one byte, or a number "in seven-bit groups, the shortest writing". Each of these functions says where the next byte goes;
+// a writer keeps that place beside the room.
 ghost use mathlib.Core.Path.{_≡_};
 ghost use mathlib.Core.List.{[], _∷_};
 ghost use Prim.Native.Nat.{_+_, _<_, _≤_};
 ghost use lib.ListN.{length};
 ghost use Rattle.meaning.specs.Number.{num};
 ghost use Rattle.groups.specs.Put.{put};
+
+// "The caller's room together with the number of bytes already filled."
+pub struct Writer<'a> {
+    pub room: &'a mut [u8],
+    pub length: usize,
+}
 
 // How many bytes a number takes.
 pub fn number_length(x: u32) -> usize

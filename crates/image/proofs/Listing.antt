@@ -60,7 +60,7 @@ module _ (code mark kids : List ℕ) (n : ℕ) where
   unfolding listing
   length-listing = omega (arith, length-append (num n) (rowsFrom code mark kids n 0), ap length left-all)
 
-  pub put-listing : (at₁ : ℕ) (d d₁ : List ℕ) → d₁ ≡ put d 0 (num n) → at₁ ≡ 0 + length (num n)
-      → put d₁ at₁ (left 0) ≡ put d 0 (listing code mark kids n)
+  pub put-listing : (at at₁ : ℕ) (d d₁ : List ℕ) → d₁ ≡ put d at (num n) → at₁ ≡ at + length (num n)
+      → put d₁ at₁ (left 0) ≡ put d at (listing code mark kids n)
   unfolding listing
-  put-listing at₁ d d₁ e a = ap (put d₁ at₁) left-all ∙ put-then d d₁ 0 at₁ (num n) (rowsFrom code mark kids n 0) e a
+  put-listing at at₁ d d₁ e a = ap (put d₁ at₁) left-all ∙ put-then d d₁ at at₁ (num n) (rowsFrom code mark kids n 0) e a

@@ -70,14 +70,14 @@ module _ {code mark kids span up : List ℕ} {n : ℕ} (R : Rows code mark kids 
           let w = size-holds span u e (tree i k r) h in
           rw (← h .0, ← z .0, both-row u (omega arith))
 
-    some-none : (u e : ℕ) (F : Forest ℕ) → Holds span u e F → e ≤ n → t < u → someTree bothIn (mapT (tagged code s d) F) ≡ false
+    pub some-none : (u e : ℕ) (F : Forest ℕ) → Holds span u e F → e ≤ n → t < u → someTree bothIn (mapT (tagged code s d) F) ≡ false
     unfolding mapT
     some-none u e bare h l m = refl
     some-none u e (tree i k r) h l m =
         let z = holds-first span u e i k r h .2 in
         some-first u e i k r h l ∙ rw (covers-before span u t m) (some-none (u + getD span u 0) e r z l (omega arith))
 
-    some-here : (u e : ℕ) (F : Forest ℕ) → Holds span u e F → e ≤ n → u ≤ t → t < e → someTree bothIn (mapT (tagged code s d) F) ≡ true
+    pub some-here : (u e : ℕ) (F : Forest ℕ) → Holds span u e F → e ≤ n → u ≤ t → t < e → someTree bothIn (mapT (tagged code s d) F) ≡ true
     some-here u e bare h l m b = absurd (omega arith)
     some-here u e (tree i k r) h l m b = go (decLt t (u + getD span u 0)) (λ a. some-here (u + getD span u 0) e r (holds-first span u e i k r h .2) l a b)
       where

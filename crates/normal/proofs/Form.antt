@@ -1,22 +1,19 @@
--- The normal form of rows: its factors are those of the ways, "with no factor at all the word is 1", and it has at most 2,048 bytes.
+-- The normal form of rows: its factors are those of the ways, and "with no factor at all the word is 1".
 use mathlib.Core.Path.{_≡_, refl, sym, ap, _∙_}
 use mathlib.Core.Bool.{true}
 use mathlib.Core.List.{List, [], _∷_}
-use Prim.Native.Nat.{ℕ, zero, suc, _+_, _≤_, _<_}
+use Prim.Native.Nat.{ℕ, _+_, _≤_, _<_}
 use native.Mathlib.Omega.{arith}
-use lib.ListN.{length, getD}
+use lib.ListN.{length}
 use Rattle.meaning.specs.Expression.{Expr}
-use Rattle.meaning.specs.Number.{largestLabel}
-use Rattle.meaning.specs.Tree.{Forest, bare, tree, Tag, size}
+use Rattle.meaning.specs.Tree.{Forest, Tag}
 use Rattle.meaning.specs.Normal.{all, factors, normal, wordOf}
 use Rattle.theory.proofs.Count.{src, dst}
-use Rattle.theory.proofs.Labels.{LabIn, LabsIn}
-use Rattle.theory.proofs.Limits.{InRange, form-short}
-use Rattle.rows.specs.Rows.{labOf, tagAt, brothers, shape, mapT, treeRows, Holds, Rows}
-use Rattle.rows.proofs.Rows.{size-holds, size-rows, rows-top}
-use Rattle.groups.specs.Put.{put}
+use Rattle.rows.specs.Rows.{tagAt, brothers, shape, mapT, treeRows, Rows}
+use Rattle.rows.proofs.Rows.{rows-top}
+use Rattle.groups.specs.Put.{put, Written}
 use Rattle.groups.proofs.Put.{put-nil}
-use Rattle.branches.specs.Joining.{fill, Written}
+use Rattle.branches.specs.Joining.{fill}
 use Rattle.branches.specs.Factors.{tagged}
 use Rattle.branches.proofs.Joining.{word-some, fill-nil, fill-first, written-is}
 use Rattle.normal.specs.Ways.{QueryRows, Lowest, Borne, bears, formAt}
@@ -24,17 +21,18 @@ use Rattle.normal.proofs.Marks.{bears-src, bears-dst, count-find, tagge
 use Rattle.normal.proofs.Around.{factors-rows}
 
 -- ------------------------------------------------------------------ the word of some factors, or of none
-fill-short : (xs : List Expr) → length (fill 0 0 xs) ≤ length (wordOf (all xs))
-fill-short [] = omega (arith, ap length (fill-nil 0 0))
-fill-short (x ∷ xs) = omega (arith, ap length (fill-first 0 x xs))
+module _ (from : ℕ) where
+  fill-short : (xs : List Expr) → length (fill from from xs) ≤ length (wordOf (all xs))
+  fill-short [] = omega (arith, ap length (fill-nil from from))
+  fill-short (x ∷ xs) = omega (arith, ap length (fill-first from x xs))
 
-fill-word : (xs : List Expr) → (length (fill 0 0 xs) ≡ 0 → ⊥) → wordOf (all xs) ≡ fill 0 0 xs
-fill-word [] z = absurd (z (ap length (fill-nil 0 0)))
-fill-word (x ∷ xs) z = sym (fill-first 0 x xs)
+  fill-word : (xs : List Expr) → (length (fill from from xs) ≡ 0 → ⊥) → wordOf (all xs) ≡ fill from from xs
+  fill-word [] z = absurd (z (ap length (fill-nil from from)))
+  fill-word (x ∷ xs) z = sym (fill-first from x xs)
 
-fill-none : (xs : List Expr) → length (fill 0 0 xs) ≡ 0 → wordOf (all xs) ≡ 1 ∷ []
-fill-none [] z = refl
-fill-none (x ∷ xs) z = absurd (omega (arith, ap length (fill-first 0 x xs), word-some (all (x ∷ xs))))
+  fill-none : (xs : List Expr) → length (fill from from xs) ≡ 0 → wordOf (all xs) ≡ 1 ∷ []
+  fill-none [] z = refl
+  fill-none (x ∷ xs) z = absurd (omega (arith, ap length (fill-first from x xs), word-some (all (x ∷ xs))))
 
 no-bytes : (bs : List ℕ) → length bs ≡ 0 → bs ≡ []
 no-bytes [] e = refl
@@ -73,7 +71,7 @@ module _ {code mark kids span up : List ℕ} {n : ℕ} (Q : QueryRows code mark 
   normal-rows f l = rw (rows-top code mark kids span up n R l .shape-is)
 
   module _ (s d : ℕ) (bs : (s < n) × (bears mark 1 s ≡ true)) (bd : (d < n) × (bears mark 2 d ≡ true)) (t : ℕ) (L : Lowest span s d t) where
-    form-word : Word ≡ wordOf (all (formAt code span s d t))
+    pub form-word : Word ≡ wordOf (all (formAt code span s d t))
     form-word =
         let z : 0 < n = omega (arith, bs .0) in
         let T = tagged-rows R (Q .one-src z) (Q .one-dst z) s d (bs .0) (bd .0) (bs .1) (bd .1) in
@@ -81,35 +79,18 @@ module _ {code mark kids span up : List ℕ} {n : ℕ} (Q : QueryRows code mark 
         ap (λ (F : Forest Tag). wordOf (normal F)) T
         ∙ ap wordOf (normal-rows (tagged code s d) z ∙ ap all (factors-rows R s d t l L))
 
-    pub form-fits : (m : ℕ) → length Word ≤ m → length (fill 0 0 (formAt code span s d t)) ≤ m
-    form-fits m l = omega (arith, ap length form-word, fill-short (formAt code span s d t))
+    module _ (from : ℕ) where
+      pub form-fits : (m : ℕ) → from + length Word ≤ m → from + length (fill from from (formAt code span s d t)) ≤ m
+      form-fits m l = omega (arith, ap length form-word, fill-short from (formAt code span s d t))
 
-    module _ {e₀ e : List ℕ} {end : ℕ} (w : Written e₀ 0 (fill 0 0 (formAt code span s d t)) e end) where
-      pub form-some : (end ≡ 0 → ⊥) → Written e₀ 0 Word e end
-      form-some z = written-is (sym (form-word ∙ fill-word (formAt code span s d t) (λ q. z (omega (arith, w .place))))) w
+      module _ {e₀ e : List ℕ} {end : ℕ} (w : Written e₀ from (fill from from (formAt code span s d t)) e end) where
+        pub form-some : (end ≡ from → ⊥) → Written e₀ from Word e end
+        form-some z = written-is (sym (form-word ∙ fill-word from (formAt code span s d t) (λ q. z (omega (arith, w .place))))) w
 
-      -- "With no factor at all the word is 1.": the room is still as it was
-      pub form-none : end ≡ 0 → (Word ≡ 1 ∷ []) × (e ≡ e₀)
-      form-none z =
-          let q : length (fill 0 0 (formAt code span s d t)) ≡ 0 = omega (arith, w .place) in
-          (form-word ∙ fill-none (formAt code span s d t) q, w .bytes ∙ ap (put e₀ 0) (no-bytes (fill 0 0 (formAt code span s d t)) q) ∙ put-nil e₀ 0)
-
-  -- ------------------------------------------------------------------ its length
-  labs-rows : (u e : ℕ) (F : Forest ℕ) → Holds span u e F → e ≤ n → LabsIn InRange (mapT (tagAt code mark) F)
-  unfolding mapT
-  labs-rows u e bare h l = tt
-  labs-rows u e (tree i k r) h l =
-      let w = size-holds span u e (tree i k r) h in
-      let v = size-holds span (suc i + size k) e r (h .3) in
-      (go (getD code i 0) (R .labels i (omega (arith, h .0))), labs-rows (suc i) (suc i + size k) k (h .2) (omega arith), labs-rows (suc i + size k) e r (h .3) l)
-    where
-      go : (c : ℕ) → c ≤ suc largestLabel → LabIn InRange (labOf c)
-      go zero m = tt
-      go (suc c) m = omega arith
-
-  -- "The normal form has at most 2,048 bytes."
-  pub form-room : length Word ≤ 2048
-  unfolding treeRows
-  form-room =
-      let s = size-rows span n (R .laid) code mark in
-      form-short (treeRows code mark span n) (labs-rows 0 n (shape span n) (R .laid) (omega arith)) (omega (arith, R .few))
+        -- "With no factor at all the word is 1.": the room is still as it was
+        pub form-none : end ≡ from → (Word ≡ 1 ∷ []) × (e ≡ e₀)
+        form-none z =
+            let q : length (fill from from (formAt code span s d t)) ≡ 0 = omega (arith, w .place) in (
+              form-word ∙ fill-none from (formAt code span s d t) q,
+              w .bytes ∙ ap (put e₀ from) (no-bytes (fill from from (formAt code span s d t)) q) ∙ put-nil e₀ from,
+            )

@@ -4,3 +4,5 @@ mod Marks
 mod Steps
 mod Writing
 mod Form
+mod Weight
+mod Counting

@@ -12,10 +12,11 @@ use Rattle.meaning.specs.Number.{num}
 use Rattle.meaning.specs.Normal.{aboveFactor}
 use Rattle.rows.specs.Rows.{below}
 use Rattle.rows.proofs.Rows.{rows-top}
-use Rattle.branches.specs.Joining.{joint, fill, factor, Written}
+use Rattle.groups.specs.Put.{Written}
+use Rattle.branches.specs.Joining.{joint, fill, factor}
 use Rattle.branches.specs.Factors.{Row, ownAt}
 use Rattle.branches.proofs.Joining.{fill-nil, fill-one, fill-first, fill-parent, factor-first, factor-rest, factor-then, written-nil}
-use Rattle.branches.proofs.Joining.{written-is, written-then, written-length, first-fits, rest-fits, rest-done, Left, left-is, left-fits, left-step}
+use Rattle.branches.proofs.Joining.{written-is, written-then, written-length, written-reached, first-fits, rest-fits, rest-done, Left, left-is, left-fits, left-step}
 use Rattle.normal.specs.Ways.{Covers, Among, Part, Climb, upsAt, downsAt, wayAt, formAt}
 use Rattle.normal.proofs.Walk.{row-open, among-from, ups-step, downs-step, way-step, ups-end, downs-end, way-end}
 use Rattle.normal.proofs.Steps.{covers-self, parent-less, parent-covers, parent-among, parent-least}
@@ -25,9 +26,12 @@ module _ {code kids span up : List ℕ} {t s : ℕ} (C : Climb code kids span up
   pub climb-row : (x : ℕ) → Covers span x s → Row code kids span x
   climb-row x v = record { mark = C .mark; up = up; n = C .n; rows = C .rows; within = omega (arith, v .from, C .within) }
 
-  pub rise-start : (d : List ℕ) → (t ≤ s) × Covers span s s × Written d 0 (fill 0 0 (upsAt code span s s)) d 0
-  rise-start d =
-      (C .covers .from, covers-self (C .rows) s (C .within), written-is (sym (ap (fill 0 0) (ups-end (C .rows) s (C .within)) ∙ fill-nil 0 0)) (written-nil d 0))
+  pub rise-start : (d : List ℕ) (from : ℕ) → (t ≤ s) × Covers span s s × Written d from (fill from from (upsAt code span s s)) d from
+  rise-start d from = (
+    C .covers .from,
+    covers-self (C .rows) s (C .within),
+    written-is (sym (ap (fill from from) (ups-end (C .rows) s (C .within)) ∙ fill-nil from from)) (written-nil d from),
+  )
 
   -- one row further up: x is above or at s, below t
   module _ (x : ℕ) (tx : t ≤ x) (v : Covers span x s) (ne : x ≡ t → ⊥) where
@@ -64,7 +68,11 @@ module _ {code kids span up : List ℕ} {t s : ℕ} (C : Climb code kids span up
           )
 
   module _ (x : ℕ) (tx : t ≤ x) (v : Covers span x s) (ne : x ≡ t → ⊥)
-      (d₀ : List ℕ) {d : List ℕ} {at : ℕ} (w : Written d₀ 0 (fill 0 0 (upsAt code span s x)) d at) where
+      (d₀ : List ℕ) {from : ℕ} {d : List ℕ} {at : ℕ} (w : Written d₀ from (fill from from (upsAt code span s x)) d at) where
+    -- something stands before, or nothing does
+    pub rise-reached : from ≤ at
+    rise-reached = written-reached (omega arith) w
+
     abbrev own : List Expr
     own = ownAt code span s s x
 
@@ -77,22 +85,22 @@ module _ {code kids span up : List ℕ} {t s : ℕ} (C : Climb code kids span up
         ups-begin (getD up x 0) (getD up x 0) (omega arith) (rise-from x tx v ne) (rise-covers x tx v ne) .1
         ∙ ap (λ (l : List Expr). l ++ later) (rise-step x tx v ne) ∙ simp append-assoc
 
-    module _ (l : length (fill 0 0 (upsAt code span s t)) ≤ length d₀) where
-      rest-of-way : at + length (fill 0 at (own ++ ((parent ∷ []) ++ later))) ≤ length d
-      rest-of-way = rest-fits (upsAt code span s x) (own ++ ((parent ∷ []) ++ later)) rise-parts d₀ (omega arith) w (omega arith)
+    module _ (l : from + length (fill from from (upsAt code span s t)) ≤ length d₀) where
+      rest-of-way : at + length (fill from at (own ++ ((parent ∷ []) ++ later))) ≤ length d
+      rest-of-way = rest-fits (upsAt code span s x) (own ++ ((parent ∷ []) ++ later)) rise-parts d₀ (omega arith) w l
 
-      pub rise-own : at + length (fill 0 at (ownAt code span s s x)) ≤ length d
-      rise-own = first-fits own ((parent ∷ []) ++ later) refl d (omega arith) rest-of-way
+      pub rise-own : at + length (fill from at (ownAt code span s s x)) ≤ length d
+      rise-own = first-fits own ((parent ∷ []) ++ later) refl d rise-reached rest-of-way
 
-      pub rise-parent : {d₁ : List ℕ} {a : ℕ} → Written d at (fill 0 at (ownAt code span s s x)) d₁ a → a + length (factor 0 a (num 3)) ≤ length d₁
+      pub rise-parent : {d₁ : List ℕ} {a : ℕ} → Written d at (fill from at (ownAt code span s s x)) d₁ a → a + length (factor from a (num 3)) ≤ length d₁
       rise-parent {d₁} {a} y =
-          rw (← fill-parent 0 a) (first-fits (parent ∷ []) later refl d₁ (omega arith) (rest-fits own ((parent ∷ []) ++ later) refl d (omega arith) y rest-of-way))
+          rw (← fill-parent from a) (first-fits (parent ∷ []) later refl d₁ (written-reached rise-reached y) (rest-fits own ((parent ∷ []) ++ later) refl d rise-reached y rest-of-way))
 
-    pub rise-next : {d₁ d₂ : List ℕ} {a r : ℕ} → Written d at (fill 0 at (ownAt code span s s x)) d₁ a → Written d₁ a (factor 0 a (num 3)) d₂ r
-        → Written d₀ 0 (fill 0 0 (upsAt code span s (getD up x 0))) d₂ r
+    pub rise-next : {d₁ d₂ : List ℕ} {a r : ℕ} → Written d at (fill from at (ownAt code span s s x)) d₁ a → Written d₁ a (factor from a (num 3)) d₂ r
+        → Written d₀ from (fill from from (upsAt code span s (getD up x 0))) d₂ r
     rise-next {a = a} y z =
         rest-done (upsAt code span s x) (own ++ (parent ∷ [])) (rise-step x tx v ne) d₀ (omega arith) w
-        (rest-done own (parent ∷ []) refl d (omega arith) y (written-is (sym (fill-parent 0 a)) z))
+        (rest-done own (parent ∷ []) refl d rise-reached y (written-is (sym (fill-parent from a)) z))
 
 -- ------------------------------------------------------------------ down, by two parts of the factors a row
 module _ {d₀ : List ℕ} {from at₀ : ℕ} {all-of : List Expr} {d : List ℕ} {at : ℕ} {xs : List Expr} (ys zs ws : List Expr) (e : xs ≡ ys ++ (zs ++ ws))
@@ -163,13 +171,13 @@ above-some code span from at t ne = rw (ne-eqb 0 t (λ q. ne (sym q))) (go (ownA
     go [] zs = above-cons from at child zs
     go (y ∷ ys) zs = above-cons from at y (ys ++ (child ∷ zs))
 
-module _ (code span : List ℕ) (at t : ℕ) (ne : t ≡ 0 → ⊥) (d : List ℕ) where
+module _ (code span : List ℕ) (from at t : ℕ) (ne : t ≡ 0 → ⊥) (d : List ℕ) where
   abbrev way : List ℕ
   way = fill at at (wayAt code span t 0)
 
-  module _ (l : at + length (fill 0 at (aboveFactor (wayAt code span t 0) [])) ≤ length d) where
+  module _ (l : at + length (fill from at (aboveFactor (wayAt code span t 0) [])) ≤ length d) where
     l′ : at + length (way ++ (6 ∷ [])) ≤ length d
-    l′ = factor-first 0 at (way ++ (6 ∷ [])) _ (rw (above-some code span 0 at t ne) at l)
+    l′ = factor-first from at (way ++ (6 ∷ [])) _ (rw (above-some code span from at t ne) at l)
 
     pub way-fits : at + length (fill at at (wayAt code span t 0)) ≤ length d
     way-fits = omega (arith, l′, length-append way (6 ∷ []))
@@ -178,15 +186,15 @@ module _ (code span : List ℕ) (at t : ℕ) (ne : t ≡ 0 → ⊥) (d : List �
       pub six-fits : a < length d₁
       six-fits = let s = written-length v in let p = v .place in omega (arith, l′, length-append way (6 ∷ []))
 
-      pub above-joint : {d₂ : List ℕ} {b : ℕ} → Written d₁ a (6 ∷ []) d₂ b → b + length (joint (ltb 0 at)) ≤ length d₂
+      pub above-joint : {d₂ : List ℕ} {b : ℕ} → Written d₁ a (6 ∷ []) d₂ b → b + length (joint (ltb from at)) ≤ length d₂
       above-joint {d₂} {b} w =
           let z = written-then v w in
           let s = written-length z in
-          factor-rest 0 at (way ++ (6 ∷ [])) (length d₂) b (z .place) (omega (arith, rw (above-some code span 0 at t ne) at l))
+          factor-rest from at (way ++ (6 ∷ [])) (length d₂) b (z .place) (omega (arith, rw (above-some code span from at t ne) at l))
 
   pub above-done : {d₁ d₂ d₃ : List ℕ} {a b r : ℕ} → Written d at (fill at at (wayAt code span t 0)) d₁ a → Written d₁ a (6 ∷ []) d₂ b
-      → Written d₂ b (joint (ltb 0 at)) d₃ r → Written d at (fill 0 at (aboveFactor (wayAt code span t 0) [])) d₃ r
-  above-done v w z = written-is (sym (above-some code span 0 at t ne)) (factor-then 0 at (fill at at (wayAt code span t 0) ++ (6 ∷ [])) (written-then v w) z)
+      → Written d₂ b (joint (ltb from at)) d₃ r → Written d at (fill from at (aboveFactor (wayAt code span t 0) [])) d₃ r
+  above-done v w z = written-is (sym (above-some code span from at t ne)) (factor-then from at (fill at at (wayAt code span t 0) ++ (6 ∷ [])) (written-then v w) z)
 
 -- ------------------------------------------------------------------ all factors
 module _ (code span : List ℕ) (s d t : ℕ) where
@@ -206,29 +214,38 @@ module _ (code span : List ℕ) (s d t : ℕ) where
   unfolding formAt
   form-parts = refl
 
-  module _ (d₀ : List ℕ) (l : length (fill 0 0 (formAt code span s d t)) ≤ length d₀) where
-    pub ups-fits : length (fill 0 0 U) ≤ length d₀
-    ups-fits = omega (arith, first-fits U (A ++ (O ++ D)) form-parts d₀ {from = 0} {at = 0} (omega arith) (omega arith))
+  module _ (from : ℕ) (d₀ : List ℕ) (l : from + length (fill from from (formAt code span s d t)) ≤ length d₀) where
+    pub ups-fits : from + length (fill from from U) ≤ length d₀
+    ups-fits = first-fits U (A ++ (O ++ D)) form-parts d₀ (omega arith) l
 
-    module _ {d₁ : List ℕ} {a : ℕ} (u : Written d₀ 0 (fill 0 0 U) d₁ a) where
-      from-above : a + length (fill 0 a (A ++ (O ++ D))) ≤ length d₁
-      from-above = rest-fits U (A ++ (O ++ D)) form-parts d₀ (omega arith) u (omega arith)
+    module _ {d₁ : List ℕ} {a : ℕ} (u : Written d₀ from (fill from from U) d₁ a) where
+      risen : from ≤ a
+      risen = written-reached (omega arith) u
 
-      pub above-fits : a + length (fill 0 a A) ≤ length d₁
-      above-fits = first-fits A (O ++ D) refl d₁ (omega arith) from-above
+      from-above : a + length (fill from a (A ++ (O ++ D))) ≤ length d₁
+      from-above = rest-fits U (A ++ (O ++ D)) form-parts d₀ (omega arith) u l
 
-      module _ {d₂ : List ℕ} {b : ℕ} (v : Written d₁ a (fill 0 a A) d₂ b) where
-        from-own : b + length (fill 0 b (O ++ D)) ≤ length d₂
-        from-own = rest-fits A (O ++ D) refl d₁ (omega arith) v from-above
+      pub above-fits : a + length (fill from a A) ≤ length d₁
+      above-fits = first-fits A (O ++ D) refl d₁ risen from-above
 
-        pub own-fits : b + length (fill 0 b O) ≤ length d₂
-        own-fits = first-fits O D refl d₂ (omega arith) from-own
+      module _ {d₂ : List ℕ} {b : ℕ} (v : Written d₁ a (fill from a A) d₂ b) where
+        pub met : from ≤ b
+        met = written-reached risen v
 
-        module _ {d₃ : List ℕ} {c : ℕ} (w : Written d₂ b (fill 0 b O) d₃ c) where
-          pub downs-fits : c + length (fill 0 c D) ≤ length d₃
-          downs-fits = rest-fits O D refl d₂ (omega arith) w from-own
+        from-own : b + length (fill from b (O ++ D)) ≤ length d₂
+        from-own = rest-fits A (O ++ D) refl d₁ risen v from-above
 
-          pub form-done : {d₄ : List ℕ} {r : ℕ} → Written d₃ c (fill 0 c D) d₄ r → Written d₀ 0 (fill 0 0 (formAt code span s d t)) d₄ r
+        pub own-fits : b + length (fill from b O) ≤ length d₂
+        own-fits = first-fits O D refl d₂ met from-own
+
+        module _ {d₃ : List ℕ} {c : ℕ} (w : Written d₂ b (fill from b O) d₃ c) where
+          pub owned : from ≤ c
+          owned = written-reached met w
+
+          pub downs-fits : c + length (fill from c D) ≤ length d₃
+          downs-fits = rest-fits O D refl d₂ met w from-own
+
+          pub form-done : {d₄ : List ℕ} {r : ℕ} → Written d₃ c (fill from c D) d₄ r → Written d₀ from (fill from from (formAt code span s d t)) d₄ r
           form-done z =
               rest-done U (A ++ (O ++ D)) form-parts d₀ (omega arith) u
-              (rest-done A (O ++ D) refl d₁ (omega arith) v (rest-done O D refl d₂ (omega arith) w z))
+              (rest-done A (O ++ D) refl d₁ risen v (rest-done O D refl d₂ met w z))

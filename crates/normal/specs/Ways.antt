@@ -19,6 +19,11 @@ pub record QueryRows (code mark kids span up : List ℕ) (n : ℕ) : Type 0 wher
   pub one-src : 0 < n → count src (treeRows code mark span n) ≡ 1
   pub one-dst : 0 < n → count dst (treeRows code mark span n) ≡ 1
 
+-- n rows that are a tree, whatever their marks
+pub record Unmarked (code kids span up : List ℕ) (n : ℕ) : Type 0 where
+  pub mark : List ℕ
+  pub rows : Rows code mark kids span up n
+
 -- row x lies at or below row u
 pub record Covers (span : List ℕ) (u x : ℕ) : Type 0 where
   pub from : u ≤ x

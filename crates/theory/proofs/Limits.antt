@@ -73,11 +73,11 @@ image-short f h le = omega (arith, records-short f h le, num-short 1 (size f) (o
 
 -- ------------------------------------------------------------------ normal forms
 -- what a list of factors takes, with one sign to join each
-abbrev cost : List Expr → ℕ
+abbrev pub cost : List Expr → ℕ
 cost [] = 0
 cost (x ∷ xs) = suc (length (wordOf x)) + cost xs
 
-joined-cost : (x : Expr) (ys : List Expr) → suc (length (wordOf (joined x ys))) ≡ cost (x ∷ ys)
+pub joined-cost : (x : Expr) (ys : List Expr) → suc (length (wordOf (joined x ys))) ≡ cost (x ∷ ys)
 joined-cost x [] = omega arith
 joined-cost x (y ∷ ys) = omega (arith, joined-cost (comp x y) ys, length-append (wordOf x) (wordOf y ++ (4 ∷ [])), length-append (wordOf y) (4 ∷ []))
 
@@ -85,7 +85,7 @@ all-cost : (xs : List Expr) → length (wordOf (all xs)) ≤ suc (cost xs)
 all-cost [] = omega arith
 all-cost (x ∷ xs) = omega (arith, joined-cost x xs)
 
-append-cost : (xs ys : List Expr) → cost (xs ++ ys) ≡ cost xs + cost ys
+pub append-cost : (xs ys : List Expr) → cost (xs ++ ys) ≡ cost xs + cost ys
 append-cost [] ys = omega arith
 append-cost (x ∷ xs) ys = omega (arith, append-cost xs ys)
 

@@ -15,14 +15,14 @@ returns c =
 way-requires : tie.Need-way-requires
 way-requires c κs =
     let s = c .before .before .before .before .before .before in
-    (s .pre .0, way-fits _ _ _ (s .args .t) (λ z. omega (arith, c .before .if1 .left)) (s .args .room .now) (s .pre .1))
+    (s .pre .0, way-fits _ _ _ _ (s .args .t) (λ z. omega (arith, c .before .if1 .left)) (s .args .room .now) (s .pre .1))
 
 put-byte-requires : tie.Need-put-byte-requires
 put-byte-requires c κs =
     let s = c .before .before .before .before .before .before .before .before .before .before in
     let if1 = c .before .before .before .before .before .if1 in
     let way = c .before .before .before .way in
-    six-fits _ _ _ (s .args .t) (λ z. omega (arith, if1 .left)) (s .args .room .now) (s .pre .1) (way .ensures)
+    six-fits _ _ _ _ (s .args .t) (λ z. omega (arith, if1 .left)) (s .args .room .now) (s .pre .1) (way .ensures)
 
 join-requires : tie.Need-join-requires
 join-requires c κs =
@@ -30,7 +30,7 @@ join-requires c κs =
     let if1 = c .before .before .before .before .before .before .before .before .before .if1 in
     let way = c .before .before .before .before .before .before .before .way in
     let put-byte = c .before .before .before .put-byte in
-    above-joint (s .args .code .now) (s .args .span .now) (s .args .at) (s .args .t) (λ z. omega (arith, if1 .left)) (s .args .room .now) (s .pre .1) (way .ensures)
+    above-joint (s .args .code .now) (s .args .span .now) (s .args .from) (s .args .at) (s .args .t) (λ z. omega (arith, if1 .left)) (s .args .room .now) (s .pre .1) (way .ensures)
     (record { place = put-byte .ensures .0; bytes = put-byte .ensures .1 })
 
 same-length : tie.Need-same-length
@@ -43,7 +43,7 @@ returns-2 c =
     let way = c .before .before .before .before .before .before .before .before .before .before .way in
     let put-byte = c .before .before .before .before .before .before .put-byte in
     let join = c .before .before .join in
-    above-done _ _ _ (s .args .t) (λ z. omega (arith, if1 .left)) _ (way .ensures) (record { place = put-byte .ensures .0; bytes = put-byte .ensures .1 }) (join .ensures)
+    above-done _ _ _ _ (s .args .t) (λ z. omega (arith, if1 .left)) _ (way .ensures) (record { place = put-byte .ensures .0; bytes = put-byte .ensures .1 }) (join .ensures)
 
 pub above-spec : {M : Type 1} → statement M
 above-spec =

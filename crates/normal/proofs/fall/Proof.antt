@@ -7,23 +7,23 @@ use lib.ListN.{length}
 use Rattle.meaning.specs.Expression.{child}
 use Rattle.branches.specs.Joining.{fill}
 use Rattle.branches.specs.Factors.{Row, ownAt}
-use Rattle.branches.proofs.Joining.{fill-child, written-is, Left, left-start, left-is, left-end}
+use Rattle.branches.proofs.Joining.{fill-child, written-is, written-reached, Left, left-start, left-is, left-end}
 use Rattle.normal.specs.Ways.{Covers, downsAt}
 use Rattle.normal.proofs.Writing.{part-first, part-second, part-done, row-part, child-row, child-behind, down-parts, downs-nil}
 use Rattle.normal.proofs.fall.Statement.{statement}
 use Rattle.normal.proofs.fall.Tie as tie
 
 abbrev Inv-loop : tie.InvT-loop
-Inv-loop code kids span t d room₀ at x₀ place₀ room x place = Row code kids span x × Covers span x d × Left room₀ 0 place₀ (downsAt code span d t) room place (downsAt code span d x)
-    × (place₀ + length (fill 0 place₀ (downsAt code span d t)) ≤ length room₀)
+Inv-loop code kids span t d room₀ from at x₀ place₀ room x place = Row code kids span x × Covers span x d × Left room₀ from place₀ (downsAt code span d t) room place (downsAt code span d x)
+    × (place₀ + length (fill from place₀ (downsAt code span d t)) ≤ length room₀)
 
 abbrev μ-loop : tie.MeasureT-loop
-μ-loop code kids span t d room₀ at x₀ place₀ room x place = d - x
+μ-loop code kids span t d room₀ from at x₀ place₀ room x place = d - x
 
 loop-holds : tie.Need-loop-holds Inv-loop μ-loop
 loop-holds c =
     let s = c .before .before .before .before in
-    (s .pre .0, s .pre .1, left-start _ _ _ _ _ refl (omega arith), s .pre .2)
+    (s .pre .0, s .pre .1, left-start _ _ _ _ _ refl (s .pre .2), s .pre .3)
 
 child-to-requires : tie.Need-child-to-requires Inv-loop μ-loop
 child-to-requires c κs = let (R, v, L, f) = c .before .loop .inv in (row-part R, omega (arith, v .from, c .loop-test .taken), v)
@@ -36,7 +36,7 @@ put-sign-requires c κs =
     let (R, v, L, f) = l .inv in
     let (a, w) = child-to .ensures in
     let mine = (ownAt (s .args .code .now) (s .args .span .now) (s .args .d) (s .args .d) (child-to .result)) in
-    rw (← fill-child 0 (l .place)) (part-first (child ∷ []) mine _ (down-parts R a w v) L f)
+    rw (← fill-child (s .args .from) (l .place)) (part-first (child ∷ []) mine _ (down-parts R a w v) L f)
 
 own-requires : tie.Need-own-requires Inv-loop μ-loop
 own-requires c κs =
@@ -47,8 +47,8 @@ own-requires c κs =
     let (R, v, L, f) = l .inv in
     let (a, w) = child-to .ensures in
     let mine = (ownAt (s .args .code .now) (s .args .span .now) (s .args .d) (s .args .d) (child-to .result)) in
-    let stepped = written-is (sym (fill-child 0 (l .place))) (put-sign .ensures) in
-    (child-row R a w v, omega arith, part-second (child ∷ []) mine _ (down-parts R a w v) L stepped f)
+    let stepped = written-is (sym (fill-child (s .args .from) (l .place))) (put-sign .ensures) in
+    (child-row R a w v, written-reached (L .reached) stepped, part-second (child ∷ []) mine _ (down-parts R a w v) L stepped f)
 
 loop-less : tie.Need-loop-less Inv-loop μ-loop
 loop-less c =
@@ -68,7 +68,7 @@ loop-again c =
     let (R, v, L, f) = l .inv in
     let (a, w) = child-to .ensures in
     let mine = (ownAt (s .args .code .now) (s .args .span .now) (s .args .d) (s .args .d) (child-to .result)) in
-    let stepped = written-is (sym (fill-child 0 (l .place))) (put-sign .ensures) in
+    let stepped = written-is (sym (fill-child (s .args .from) (l .place))) (put-sign .ensures) in
     (child-row R a w v, w, part-done (child ∷ []) mine _ (down-parts R a w v) L stepped (own .ensures), f)
 
 same-length : tie.Need-same-length Inv-loop μ-loop

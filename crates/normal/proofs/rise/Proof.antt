@@ -1,30 +1,32 @@
 -- The room has the factors of the way from s up to row x.
 use Prim.Native.Nat.{_≤_}
 use native.Mathlib.Omega.{arith}
-use Rattle.branches.specs.Joining.{fill, Written}
+use Rattle.groups.specs.Put.{Written}
+use Rattle.branches.specs.Joining.{fill}
 use Rattle.branches.proofs.Joining.{written-length}
 use Rattle.normal.specs.Ways.{Covers, upsAt}
-use Rattle.normal.proofs.Writing.{climb-row, rise-start, rise-less, rise-covers, rise-from, rise-own, rise-parent, rise-next}
+use Rattle.normal.proofs.Writing.{climb-row, rise-start, rise-less, rise-covers, rise-from, rise-reached, rise-own, rise-parent, rise-next}
 use Rattle.normal.proofs.rise.Statement.{statement}
 use Rattle.normal.proofs.rise.Tie as tie
 
 abbrev Inv-loop : tie.InvT-loop
-Inv-loop code kids span up s t room₀ x₀ at₀ room x at = (t ≤ x) × Covers span x s × Written room₀ 0 (fill 0 0 (upsAt code span s x)) room at
+Inv-loop code kids span up s t room₀ from x₀ at₀ room x at = (t ≤ x) × Covers span x s × Written room₀ from (fill from from (upsAt code span s x)) room at
 
 abbrev μ-loop : tie.MeasureT-loop
-μ-loop code kids span up s t room₀ x₀ at₀ room x at = x
+μ-loop code kids span up s t room₀ from x₀ at₀ room x at = x
 
 loop-holds : tie.Need-loop-holds Inv-loop μ-loop
 loop-holds c =
     let s = c .before .before .before .before .before in
-    rise-start (s .pre .0) _
+    rise-start (s .pre .0) _ _
 
 own-requires : tie.Need-own-requires Inv-loop μ-loop
 own-requires c κs =
     let s = c .before .before .before .before .before .before .before .before in
     let l = c .before .before .loop in
     let (tx, v, w) = l .inv in
-    (climb-row (s .pre .0) (l .x) v, omega arith, rise-own (s .pre .0) (l .x) tx v (c .before .loop-test .taken) _ w (s .pre .1))
+    let ne = c .before .loop-test .taken in
+    (climb-row (s .pre .0) (l .x) v, rise-reached (s .pre .0) (l .x) tx v ne _ w, rise-own (s .pre .0) (l .x) tx v ne _ w (s .pre .1))
 
 put-sign-requires : tie.Need-put-sign-requires Inv-loop μ-loop
 put-sign-requires c κs =
