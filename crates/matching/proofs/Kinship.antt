@@ -15,8 +15,8 @@ use lib.Pow.{pow-mono}
 use borrow.Author.Tests.{eqb-true, eq-eqb, ne-eqb}
 use Rattle.meaning.specs.Matching.{bitAt}
 use Rattle.bits.specs.Bits.{bitOf, Met}
-use Rattle.bits.proofs.Bits.{and-one, zero-bit, low-bit, half-bit, byte-bit}
-use Rattle.matching.specs.Table.{FromByte, ParentOf, Added, RowIs, RowInside}
+use Rattle.bits.proofs.Bits.{and-one, zero-bit, all-bits, low-bit, half-bit, byte-bit}
+use Rattle.matching.specs.Table.{FromByte, FromNodes, ParentOf, Added, RowIs, RowInside}
 use Rattle.matching.proofs.Labels.{true-false, iff-same}
 
 -- ------------------------------------------------------------------ one bit
@@ -88,7 +88,33 @@ adding-all P h₀ byte first h b x z t = record { same = t .same; flags = λ v l
     go v (inl e) = e
     go v (inr (k, e, p)) = true-false (sym e ∙ rw z (zero-bit k))
 
--- ------------------------------------------------------------------ one row
+-- ------------------------------------------------------------------ a full byte
+pub nodes-none : (P h : List ℕ) (x : ℕ) → Added h (FromNodes P x 0) h
+nodes-none P h x = record { same = refl; flags = λ v l. (λ t. inl t, was v) }
+  where
+    was : (v : ℕ) → (getD h v 0 ≡ 1) ⊎ FromNodes P x 0 v → getD h v 0 ≡ 1
+    was v (inl t) = t
+    was v (inr (k, l, _)) = absurd (omega arith)
+
+pub nodes-more : (P h₀ h : List ℕ) (x e p : ℕ) → p ≡ getD P (x + e) 0 → p < length h → Added h₀ (FromNodes P x e) h → Added h₀ (FromNodes P x (e + 1)) (set h p 1)
+nodes-more P h₀ h x e p q lp a = record { same = length-set h p 1 ∙ a .same; flags = λ v l. go v l (ℕ-discrete v p) }
+  where
+    go : (v : ℕ) → v < 1024 → Dec (v ≡ p) → (getD (set h p 1) v 0 ≡ 1) ↔ ((getD h₀ v 0 ≡ 1) ⊎ FromNodes P x (e + 1) v)
+    go v l (yes r) = (λ _. inr (e, omega arith, sym q ∙ sym r), λ _. rw r (getD-set-same h p 1 0 lp))
+    go v l (no r) = (λ t. to (a .flags v l .0 (sym (getD-set-other h p v 1 0 r) ∙ t)), λ y. getD-set-other h p v 1 0 r ∙ a .flags v l .1 (from y))
+      where
+        to : (getD h₀ v 0 ≡ 1) ⊎ FromNodes P x e v → (getD h₀ v 0 ≡ 1) ⊎ FromNodes P x (e + 1) v
+        to (inl t) = inl t
+        to (inr (k, lk, z)) = inr (k, omega arith, z)
+
+        from : (getD h₀ v 0 ≡ 1) ⊎ FromNodes P x (e + 1) v → (getD h₀ v 0 ≡ 1) ⊎ FromNodes P x e v
+        from (inl t) = inl t
+        from (inr (k, lk, z)) = last (ℕ-discrete k e)
+          where
+            last : Dec (k ≡ e) → (getD h₀ v 0 ≡ 1) ⊎ FromNodes P x e v
+            last (yes d) = absurd (r (sym z ∙ rw d (sym q)))
+            last (no d) = inr (k, omega arith, z)
+
 -- a byte has eight bits
 byte-bits : (b k : ℕ) → b < 256 → bitOf b k ≡ true → k < 8
 byte-bits b k l e = go (decLt k 8)
@@ -100,6 +126,21 @@ byte-bits b k l e = go (decLt k 8)
         none : bitOf b k ≡ false
         none = unfold bitOf in rw (div-eq-of-lt (lt-of-lt-of-le l (let z : 8 ≤ k = omega arith in pow-mono z)))
 
+pub full-inside : (P : List ℕ) (b x : ℕ) → b ≡ 255 → ((k : ℕ) → bitOf b k ≡ true → x + k < length P) → x + 8 ≤ length P
+full-inside P b x e i = let z = i 7 (rw e (all-bits 7 (omega arith))) in omega arith
+
+pub full-byte : (P h h′ : List ℕ) (b x : ℕ) → b ≡ 255 → Added h (FromNodes P x 8) h′ → Added h (FromByte P b x) h′
+full-byte P h h′ b x e a = rw e (record { same = a .same; flags = λ v l. (λ t. to v (a .flags v l .0 t), λ y. a .flags v l .1 (from v y)) })
+  where
+    to : (v : ℕ) → (getD h v 0 ≡ 1) ⊎ FromNodes P x 8 v → (getD h v 0 ≡ 1) ⊎ FromByte P 255 x v
+    to v (inl t) = inl t
+    to v (inr (k, l, z)) = inr (k, all-bits k l, z)
+
+    from : (v : ℕ) → (getD h v 0 ≡ 1) ⊎ FromByte P 255 x v → (getD h v 0 ≡ 1) ⊎ FromNodes P x 8 v
+    from v (inl t) = inl t
+    from v (inr (k, t, z)) = inr (k, byte-bits 255 k (omega arith) t, z)
+
+-- ------------------------------------------------------------------ one row
 module _ (w : List ℕ) (c : ℕ) (P : List ℕ) (inside : RowInside w c P) where
   -- the bits of byte i
   pub byte-inside : (i : ℕ) → i < 128 → getD w (128 * c + i) 0 < 256 → (k : ℕ) → bitOf (getD w (128 * c + i) 0) k ≡ true → 8 * i + k < length P

@@ -11,7 +11,7 @@ ghost use Rattle.meaning.specs.Tree.{Takes};
 ghost use Rattle.meaning.specs.Matching.{parentOk, goodTable, docOf, bitAt, MatchTable, tableBytes};
 ghost use Rattle.bits.specs.Bits.{bitOf, Sifted, OnlyRow};
 ghost use Rattle.rows.specs.Rows.{shape, Holds, treeRows};
-ghost use Rattle.matching.specs.Table.{Suits, Parents, FromByte, ParentOf, Added, RowUpTo, RowIs, RowClear, RowInside, Query, Lies, Needs, Ready};
+ghost use Rattle.matching.specs.Table.{Suits, Parents, FromByte, FromNodes, ParentOf, Added, RowUpTo, RowIs, RowClear, RowInside, Query, Lies, Needs, Ready};
 ghost use Rattle.matching.specs.Pair.{Bears, FirstRow, Asked, OneWay};
 
 // Whether node x may have this parent number and this label.
@@ -161,6 +161,31 @@ fn mark_parents(byte: u8, first: usize, parents: &[u32], has: &mut [u8])
     }
 }
 
+// Flags the parents of eight nodes, from node `first` on.
+fn mark_eight(first: usize, parents: &[u32], has: &mut [u8])
+    requires { ⌜ Parents (now parents) × (1024 ≤ length (now has)) × (first + 8 ≤ length (now parents)) ⌝ }
+    ensures { λ _. ⌜ Added (now (has .entry)) (FromNodes (now (parents .entry)) first 8) (now (has .exit)) ⌝ }
+{
+    let mut k: usize = 0;
+    while k < 8 {
+        let p = parent_at(parents, first + k);
+        has[p] = 1;
+        k += 1;
+    }
+}
+
+// As mark_parents. A full byte, as a wildcard's row has many, needs no test of its bits.
+fn mark_byte(byte: u8, first: usize, parents: &[u32], has: &mut [u8])
+    requires { ⌜ Parents (now parents) × (1024 ≤ length (now has)) × (first ≤ 1024) × ((k : ℕ) → bitOf byte k ≡ true → first + k < length (now parents)) ⌝ }
+    ensures { λ _. ⌜ Added (now (has .entry)) (FromByte (now (parents .entry)) byte first) (now (has .exit)) ⌝ }
+{
+    if byte == 255 {
+        mark_eight(first, parents, has);
+        return;
+    }
+    mark_parents(byte, first, parents, has);
+}
+
 // Flags the parents of the nodes in row c. Node 0, the root, has none: the first byte is read without its lowest bit.
 fn mark_row(w: &[u8], c: usize, parents: &[u32], has: &mut [u8])
     requires { ⌜ Parents (now parents) × (1024 ≤ length (now has)) × (c < 256) × (128 * c + 128 ≤ length (now w)) × RowInside (now w) c (now parents) ⌝ }
@@ -172,7 +197,7 @@ fn mark_row(w: &[u8], c: usize, parents: &[u32], has: &mut [u8])
     mark_parents(b, 1, parents, has);
     let mut i: usize = 1;
     while i < bytes {
-        mark_parents(w[at + i], 8 * i, parents, has);
+        mark_byte(w[at + i], 8 * i, parents, has);
         i += 1;
     }
 }
