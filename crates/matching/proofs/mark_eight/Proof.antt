@@ -3,28 +3,26 @@ use borrow.Author.Needs.{needs}
 use mathlib.Core.Path.{_≡_}
 use Prim.Native.Nat.{_+_, _-_, _≤_}
 use native.Mathlib.Omega.{arith}
-use Rattle.matching.specs.Table.{FromNodes, Added}
-use Rattle.matching.proofs.Kinship.{nodes-none, nodes-more}
+use lib.ListN.{getD}
+use Rattle.matching.specs.Table.{Upto, Added}
+use Rattle.matching.proofs.Kinship.{upto-none, upto-more}
 use Rattle.matching.proofs.mark_eight.Statement.{statement}
 use Rattle.matching.proofs.mark_eight.Tie as tie
 
 abbrev Inv-loop : tie.InvT-loop
-Inv-loop first parents has₀ k₀ has k = (k ≤ 8) × Added has₀ (FromNodes parents first k) has
+Inv-loop first parents has₀ k₀ has k = (k ≤ 8) × Added has₀ (Upto (λ j v. getD parents (first + j) 0 ≡ v) k) has
 
 abbrev μ-loop : tie.MeasureT-loop
 μ-loop first parents has₀ k₀ has k = 8 - k
 
 loop-holds : tie.Need-loop-holds Inv-loop μ-loop
-loop-holds c = (omega arith, nodes-none (c .before .before .args .parents .now) _ (c .before .before .args .first))
+loop-holds c = (omega arith, upto-none (λ j v. getD (c .before .before .args .parents .now) (c .before .before .args .first + j) 0 ≡ v) _)
 
-add-parent-at : tie.Need-add-parent-at Inv-loop μ-loop
-add-parent-at c = omega (arith, c .before .before .before .before .pre .0 .few, c .before .before .before .before .pre .2)
+add-mark-node : tie.Need-add-mark-node Inv-loop μ-loop
+add-mark-node c = omega (arith, c .before .before .before .before .pre .0 .few, c .before .before .before .before .pre .2)
 
-parent-at-requires : tie.Need-parent-at-requires Inv-loop μ-loop
-parent-at-requires c κs = omega (arith, c .before .before .before .before .pre .2, c .loop-test .taken)
-
-slice-write-has : tie.Need-slice-write-has Inv-loop μ-loop
-slice-write-has c = omega (arith, c .parent-at .ensures, c .before .before .before .before .before .pre .0 .small (c .before .before .before .before .before .args .first + c .before .before .loop .k) (omega (arith, c .before .before .before .before .before .pre .2, c .before .loop-test .taken)), c .before .before .before .before .before .pre .1, c .before .before .loop .inv .1 .same)
+mark-node-requires : tie.Need-mark-node-requires Inv-loop μ-loop
+mark-node-requires c κs = (c .before .before .before .before .before .pre .0, omega (arith, c .before .before .loop .inv .1 .same, c .before .before .before .before .before .pre .1), omega (arith, c .before .before .before .before .before .pre .2, c .before .loop-test .taken))
 
 add-k : tie.Need-add-k Inv-loop μ-loop
 add-k c = search needs
@@ -33,7 +31,7 @@ loop-less : tie.Need-loop-less Inv-loop μ-loop
 loop-less c = search needs
 
 loop-again : tie.Need-loop-again Inv-loop μ-loop
-loop-again c = (omega arith, nodes-more (c .before .before .before .before .before .args .parents .now) _ _ (c .before .before .before .before .before .args .first) _ _ (c .parent-at .ensures) (omega (arith, c .parent-at .ensures, c .before .before .before .before .before .pre .0 .small (c .before .before .before .before .before .args .first + c .before .before .loop .k) (omega (arith, c .before .before .before .before .before .pre .2, c .before .loop-test .taken)), c .before .before .before .before .before .pre .1, c .before .before .loop .inv .1 .same)) (c .before .before .loop .inv .1))
+loop-again c = (omega arith, upto-more (λ j v. getD (c .before .before .before .before .before .before .before .before .args .parents .now) (c .before .before .before .before .before .before .before .before .args .first + j) 0 ≡ v) _ _ _ _ (c .before .before .before .before .before .loop .inv .1) (c .before .before .mark-node .ensures))
 
 same-length : tie.Need-same-length Inv-loop μ-loop
 same-length c = c .before .loop .inv .1 .same
@@ -48,9 +46,8 @@ mark-eight-spec =
     Inv-loop
     μ-loop
     loop-holds
-    add-parent-at
-    parent-at-requires
-    slice-write-has
+    add-mark-node
+    mark-node-requires
     add-k
     loop-less
     loop-again
