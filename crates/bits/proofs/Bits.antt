@@ -162,11 +162,7 @@ all-bits (suc (suc (suc (suc (suc (suc zero)))))) l = refl
 all-bits (suc (suc (suc (suc (suc (suc (suc zero))))))) l = refl
 all-bits (suc (suc (suc (suc (suc (suc (suc (suc k)))))))) l = absurd (omega arith)
 
--- the lowest bit of a byte, and the others, one place lower after a shift
-pub low-bit : (b : ℕ) → bitOf b 0 ≡ eqb (b % 2) 1
-unfolding bitOf
-low-bit b = let z : b / 1 ≡ b = omega arith in rw z
-
+-- the bits of a byte but the lowest, one place lower after a shift
 pub half-bit : (b k : ℕ) → bitOf (b / 2) k ≡ bitOf b (suc k)
 unfolding bitOf
 half-bit b k = let z : 1 + k ≡ suc k = omega arith in ap (λ (n : ℕ). eqb (n % 2) 1) (shr-shr b 1 k ∙ ap (λ (n : ℕ). b / 2 ^ n) z)

@@ -3,7 +3,7 @@ use mathlib.Core.Path.{_≡_, refl, sym, _∙_}
 use mathlib.Core.Logic.{_↔_, _⊎_, inl, inr}
 use mathlib.Core.List.{List}
 use mathlib.Core.Bool.{Bool, true, false, _&&_}
-use Prim.Native.Nat.{ℕ, zero, suc, _+_, _-_, _*_, _/_, _%_, _≤_, _<_}
+use Prim.Native.Nat.{ℕ, zero, suc, _+_, _-_, _*_, _/_, _%_, _^_, _≤_, _<_}
 use native.Mathlib.Omega.{arith}
 use native.Mathlib.Nat.{div-eq-of-lt, lt-of-lt-of-le}
 use native.Mathlib.Decide.{ℕ-discrete, decLt}
@@ -15,80 +15,80 @@ use lib.Pow.{pow-mono}
 use borrow.Author.Tests.{eqb-true, eq-eqb, ne-eqb}
 use Rattle.meaning.specs.Matching.{bitAt}
 use Rattle.bits.specs.Bits.{bitOf, Met}
-use Rattle.bits.proofs.Bits.{and-one, zero-bit, low-bit, half-bit, byte-bit}
-use Rattle.matching.specs.Table.{FromByte, ParentOf, Added, RowIs, RowInside}
+use Rattle.bits.proofs.Bits.{and-one, zero-bit, all-bits, half-bit, byte-bit}
+use Rattle.matching.specs.Table.{FromByte, Upto, ParentOf, Added, RowIs, RowInside}
 use Rattle.matching.proofs.Labels.{true-false, iff-same}
 
--- ------------------------------------------------------------------ one bit
-pub low-set : (b : ℕ) → bitAnd b 1 ≡ 1 → bitOf b 0 ≡ true
-low-set b e = low-bit b ∙ eq-eqb (b % 2) 1 (sym (and-one b) ∙ e)
-
-low-unset : (b : ℕ) → (bitAnd b 1 ≡ 1 → ⊥) → bitOf b 0 ≡ false
-low-unset b ne = low-bit b ∙ ne-eqb (b % 2) 1 (λ e. ne (and-one b ∙ e))
-
-pub added-set : (b p : ℕ) (h : List ℕ) → bitAnd b 1 ≡ 1 → p < length h → Added h (λ v. (bitOf b 0 ≡ true) × (p ≡ v)) (set h p 1)
-added-set b p h e lp = record { same = length-set h p 1; flags = λ v l. go v (ℕ-discrete v p) }
+-- ------------------------------------------------------------------ one node
+pub added-one : (p : ℕ) (h : List ℕ) → p < length h → Added h (λ v. p ≡ v) (set h p 1)
+added-one p h lp = record { same = length-set h p 1; flags = λ v l. go v (ℕ-discrete v p) }
   where
-    go : (v : ℕ) → Dec (v ≡ p) → (getD (set h p 1) v 0 ≡ 1) ↔ ((getD h v 0 ≡ 1) ⊎ ((bitOf b 0 ≡ true) × (p ≡ v)))
-    go v (yes q) = (λ _. inr (low-set b e, sym q), λ _. rw q (getD-set-same h p 1 0 lp))
+    go : (v : ℕ) → Dec (v ≡ p) → (getD (set h p 1) v 0 ≡ 1) ↔ ((getD h v 0 ≡ 1) ⊎ (p ≡ v))
+    go v (yes q) = (λ _. inr (sym q), λ _. rw q (getD-set-same h p 1 0 lp))
     go v (no q) = (λ t. inl (sym (getD-set-other h p v 1 0 q) ∙ t), λ x. getD-set-other h p v 1 0 q ∙ was x)
       where
-        was : (getD h v 0 ≡ 1) ⊎ ((bitOf b 0 ≡ true) × (p ≡ v)) → getD h v 0 ≡ 1
+        was : (getD h v 0 ≡ 1) ⊎ (p ≡ v) → getD h v 0 ≡ 1
         was (inl t) = t
-        was (inr (_, r)) = absurd (q (sym r))
+        was (inr r) = absurd (q (sym r))
 
-pub added-not : (b p : ℕ) (h : List ℕ) → (bitAnd b 1 ≡ 1 → ⊥) → Added h (λ v. (bitOf b 0 ≡ true) × (p ≡ v)) h
-added-not b p h ne = record { same = refl; flags = λ v l. (λ t. inl t, was v) }
+-- what is added, said otherwise
+added-same : (h h′ : List ℕ) (P Q : ℕ → Type 0) → ((v : ℕ) → P v ↔ Q v) → Added h P h′ → Added h Q h′
+added-same h h′ P Q f a = record { same = a .same; flags = λ v l. (λ t. to v (a .flags v l .0 t), λ y. a .flags v l .1 (from v y)) }
   where
-    was : (v : ℕ) → (getD h v 0 ≡ 1) ⊎ ((bitOf b 0 ≡ true) × (p ≡ v)) → getD h v 0 ≡ 1
+    to : (v : ℕ) → (getD h v 0 ≡ 1) ⊎ P v → (getD h v 0 ≡ 1) ⊎ Q v
+    to v (inl t) = inl t
+    to v (inr y) = inr (f v .0 y)
+
+    from : (v : ℕ) → (getD h v 0 ≡ 1) ⊎ Q v → (getD h v 0 ≡ 1) ⊎ P v
+    from v (inl t) = inl t
+    from v (inr y) = inr (f v .1 y)
+
+-- nothing is added
+added-none : (h : List ℕ) (Q : ℕ → Type 0) → ((v : ℕ) → Q v → ⊥) → Added h Q h
+added-none h Q f = record { same = refl; flags = λ v l. (λ t. inl t, was v) }
+  where
+    was : (v : ℕ) → (getD h v 0 ≡ 1) ⊎ Q v → getD h v 0 ≡ 1
     was v (inl t) = t
-    was v (inr (t, _)) = true-false (sym t ∙ low-unset b ne)
+    was v (inr y) = absurd (f v y)
+
+-- ------------------------------------------------------------------ one bit
+pub bit-set : (b k : ℕ) → bitAnd (b / 2 ^ k) 1 ≡ 1 → bitOf b k ≡ true
+unfolding bitOf
+bit-set b k e = eq-eqb (b / 2 ^ k % 2) 1 (sym (and-one (b / 2 ^ k)) ∙ e)
+
+bit-unset : (b k : ℕ) → (bitAnd (b / 2 ^ k) 1 ≡ 1 → ⊥) → bitOf b k ≡ false
+unfolding bitOf
+bit-unset b k ne = ne-eqb (b / 2 ^ k % 2) 1 (λ e. ne (and-one (b / 2 ^ k) ∙ e))
+
+pub added-set : (b k p : ℕ) (h h′ : List ℕ) → bitAnd (b / 2 ^ k) 1 ≡ 1 → Added h (λ v. p ≡ v) h′ → Added h (λ v. (bitOf b k ≡ true) × (p ≡ v)) h′
+added-set b k p h h′ e a = added-same h h′ (λ v. p ≡ v) (λ v. (bitOf b k ≡ true) × (p ≡ v)) (λ v. (λ q. (bit-set b k e, q), λ (_, q). q)) a
+
+pub added-not : (b k p : ℕ) (h : List ℕ) → (bitAnd (b / 2 ^ k) 1 ≡ 1 → ⊥) → Added h (λ v. (bitOf b k ≡ true) × (p ≡ v)) h
+added-not b k p h ne = added-none h (λ v. (bitOf b k ≡ true) × (p ≡ v)) (λ v (t, _). true-false (sym t ∙ bit-unset b k ne))
 
 -- ------------------------------------------------------------------ one byte
--- what is added up to now, and what is left in b, from node x on
-pub record Adding (P h₀ : List ℕ) (byte first : ℕ) (h : List ℕ) (b x : ℕ) : Type 0 where
-  pub same : length h ≡ length h₀
-  pub small : x + b ≤ first + byte
-  pub inside : (k : ℕ) → bitOf b k ≡ true → x + k < length P
-  pub left : (v : ℕ) → v < 1024 → ((getD h v 0 ≡ 1) ⊎ FromByte P b x v) ↔ ((getD h₀ v 0 ≡ 1) ⊎ FromByte P byte first v)
+pub upto-none : (Q : ℕ → ℕ → Type 0) (h : List ℕ) → Added h (Upto Q 0) h
+upto-none Q h = added-none h (Upto Q 0) (λ v (k, l, _). omega arith)
 
-pub adding-none : (P h₀ : List ℕ) (byte first : ℕ) → ((k : ℕ) → bitOf byte k ≡ true → first + k < length P) → Adding P h₀ byte first h₀ byte first
-adding-none P h₀ byte first i = record { same = refl; small = omega arith; inside = i; left = λ v l. (λ z. z, λ z. z) }
-
-pub adding-more : (P h₀ : List ℕ) (byte first : ℕ) (h h′ : List ℕ) (b x : ℕ) → (b ≡ 0 → ⊥) → Added h (λ v. (bitOf b 0 ≡ true) × (getD P x 0 ≡ v)) h′
-    → Adding P h₀ byte first h b x → Adding P h₀ byte first h′ (b / 2) (x + 1)
-adding-more P h₀ byte first h h′ b x ne a t =
-    record {
-      same = a .same ∙ t .same;
-      small = let z = t .small in omega arith;
-      inside = λ k e. let z = t .inside (suc k) (sym (half-bit b k) ∙ e) in omega arith;
-      left = λ v l. (λ y. t .left v l .0 (back v l y), λ y. on v l (t .left v l .1 y));
-    }
+pub upto-more : (Q : ℕ → ℕ → Type 0) (h₀ h h′ : List ℕ) (e : ℕ) → Added h₀ (Upto Q e) h → Added h (Q e) h′ → Added h₀ (Upto Q (e + 1)) h′
+upto-more Q h₀ h h′ e a b = record { same = b .same ∙ a .same; flags = λ v l. (λ t. to v l (b .flags v l .0 t), λ y. b .flags v l .1 (from v l y)) }
   where
-    next : (k : ℕ) → x + 1 + k ≡ x + suc k
-    next k = omega arith
-
-    back : (v : ℕ) → v < 1024 → (getD h′ v 0 ≡ 1) ⊎ FromByte P (b / 2) (x + 1) v → (getD h v 0 ≡ 1) ⊎ FromByte P b x v
-    back v l (inl e) = go (a .flags v l .0 e)
+    to : (v : ℕ) → v < 1024 → (getD h v 0 ≡ 1) ⊎ Q e v → (getD h₀ v 0 ≡ 1) ⊎ Upto Q (e + 1) v
+    to v l (inr y) = inr (e, omega arith, y)
+    to v l (inl t) = go (a .flags v l .0 t)
       where
-        go : (getD h v 0 ≡ 1) ⊎ ((bitOf b 0 ≡ true) × (getD P x 0 ≡ v)) → (getD h v 0 ≡ 1) ⊎ FromByte P b x v
+        go : (getD h₀ v 0 ≡ 1) ⊎ Upto Q e v → (getD h₀ v 0 ≡ 1) ⊎ Upto Q (e + 1) v
         go (inl y) = inl y
-        go (inr (y, z)) = let q : x + 0 ≡ x = omega arith in inr (0, y, rw q z)
-    back v l (inr (k, e, p)) = inr (suc k, sym (half-bit b k) ∙ e, rw (← next k) p)
+        go (inr (k, lk, y)) = inr (k, omega arith, y)
 
-    on : (v : ℕ) → v < 1024 → (getD h v 0 ≡ 1) ⊎ FromByte P b x v → (getD h′ v 0 ≡ 1) ⊎ FromByte P (b / 2) (x + 1) v
-    on v l (inl e) = inl (a .flags v l .1 (inl e))
-    on v l (inr (zero, e, p)) = let q : x + 0 ≡ x = omega arith in inl (a .flags v l .1 (inr (e, rw q at p)))
-    on v l (inr (suc k, e, p)) = inr (k, half-bit b k ∙ e, rw (next k) p)
+    from : (v : ℕ) → v < 1024 → (getD h₀ v 0 ≡ 1) ⊎ Upto Q (e + 1) v → (getD h v 0 ≡ 1) ⊎ Q e v
+    from v l (inl t) = inl (a .flags v l .1 (inl t))
+    from v l (inr (k, lk, y)) = last (ℕ-discrete k e)
+      where
+        last : Dec (k ≡ e) → (getD h v 0 ≡ 1) ⊎ Q e v
+        last (yes d) = inr (rw d at y)
+        last (no d) = inl (a .flags v l .1 (inr (k, omega arith, y)))
 
-pub adding-all : (P h₀ : List ℕ) (byte first : ℕ) (h : List ℕ) (b x : ℕ) → b ≡ 0 → Adding P h₀ byte first h b x → Added h₀ (FromByte P byte first) h
-adding-all P h₀ byte first h b x z t = record { same = t .same; flags = λ v l. (λ e. t .left v l .0 (inl e), λ y. go v (t .left v l .1 y)) }
-  where
-    go : (v : ℕ) → (getD h v 0 ≡ 1) ⊎ FromByte P b x v → getD h v 0 ≡ 1
-    go v (inl e) = e
-    go v (inr (k, e, p)) = true-false (sym e ∙ rw z (zero-bit k))
-
--- ------------------------------------------------------------------ one row
 -- a byte has eight bits
 byte-bits : (b k : ℕ) → b < 256 → bitOf b k ≡ true → k < 8
 byte-bits b k l e = go (decLt k 8)
@@ -100,6 +100,22 @@ byte-bits b k l e = go (decLt k 8)
         none : bitOf b k ≡ false
         none = unfold bitOf in rw (div-eq-of-lt (lt-of-lt-of-le l (let z : 8 ≤ k = omega arith in pow-mono z)))
 
+pub whole-byte : (P h h′ : List ℕ) (b x : ℕ) → b < 256 → Added h (Upto (λ k v. (bitOf b k ≡ true) × (getD P (x + k) 0 ≡ v)) 8) h′ → Added h (FromByte P b x) h′
+whole-byte P h h′ b x l a =
+    added-same h h′ (Upto (λ k v. (bitOf b k ≡ true) × (getD P (x + k) 0 ≡ v)) 8) (FromByte P b x) (λ v. (λ (k, _, y). (k, y .0, y .1), λ (k, t, z). (k, byte-bits b k l t, (t, z)))) a
+
+pub empty-byte : (P h : List ℕ) (b x : ℕ) → b ≡ 0 → Added h (FromByte P b x) h
+empty-byte P h b x e = rw e (added-none h (FromByte P 0 x) (λ v (k, t, _). true-false (sym t ∙ zero-bit k)))
+
+pub full-inside : (P : List ℕ) (b x : ℕ) → b ≡ 255 → ((k : ℕ) → bitOf b k ≡ true → x + k < length P) → x + 8 ≤ length P
+full-inside P b x e i = let z = i 7 (rw e (all-bits 7 (omega arith))) in omega arith
+
+pub full-byte : (P h h′ : List ℕ) (b x : ℕ) → b ≡ 255 → Added h (Upto (λ k v. getD P (x + k) 0 ≡ v) 8) h′ → Added h (FromByte P b x) h′
+full-byte P h h′ b x e a =
+    rw e
+    (added-same h h′ (Upto (λ k v. getD P (x + k) 0 ≡ v) 8) (FromByte P 255 x) (λ v. (λ (k, l, z). (k, all-bits k l, z), λ (k, t, z). (k, byte-bits 255 k (omega arith) t, z))) a)
+
+-- ------------------------------------------------------------------ one row
 module _ (w : List ℕ) (c : ℕ) (P : List ℕ) (inside : RowInside w c P) where
   -- the bits of byte i
   pub byte-inside : (i : ℕ) → i < 128 → getD w (128 * c + i) 0 < 256 → (k : ℕ) → bitOf (getD w (128 * c + i) 0) k ≡ true → 8 * i + k < length P

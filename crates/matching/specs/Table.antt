@@ -26,6 +26,10 @@ pub record Parents (parents : List ℕ) : Type 0 where
 abbrev pub FromByte : List ℕ → ℕ → ℕ → ℕ → Type 0
 FromByte parents b x v = (k : ℕ) × (bitOf b k ≡ true) × (getD parents (x + k) 0 ≡ v)
 
+-- one of the first e numbers is so, for v
+abbrev pub Upto : (ℕ → ℕ → Type 0) → ℕ → ℕ → Type 0
+Upto Q e v = (k : ℕ) × (k < e) × Q k v
+
 -- v is the parent of a node in row c, of a node with a number below e
 abbrev pub ParentOf : List ℕ → ℕ → List ℕ → ℕ → ℕ → Type 0
 ParentOf w c parents e v = (x : ℕ) × (0 < x) × (x < e) × (bitAt w c x ≡ true) × (getD parents x 0 ≡ v)

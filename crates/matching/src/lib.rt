@@ -11,7 +11,7 @@ ghost use Rattle.meaning.specs.Tree.{Takes};
 ghost use Rattle.meaning.specs.Matching.{parentOk, goodTable, docOf, bitAt, MatchTable, tableBytes};
 ghost use Rattle.bits.specs.Bits.{bitOf, Sifted, OnlyRow};
 ghost use Rattle.rows.specs.Rows.{shape, Holds, treeRows};
-ghost use Rattle.matching.specs.Table.{Suits, Parents, FromByte, ParentOf, Added, RowUpTo, RowIs, RowClear, RowInside, Query, Lies, Needs, Ready};
+ghost use Rattle.matching.specs.Table.{Suits, Parents, FromByte, Upto, ParentOf, Added, RowUpTo, RowIs, RowClear, RowInside, Query, Lies, Needs, Ready};
 ghost use Rattle.matching.specs.Pair.{Bears, FirstRow, Asked, OneWay};
 
 // Whether node x may have this parent number and this label.
@@ -135,30 +135,63 @@ fn label_row(w: &mut [u8], u: usize, code: u32, labels: &[u32])
     label_rest(w, u, code, labels, 8 * bytes);
 }
 
-// Flags the parent of node x, if the lowest bit of b is set.
-fn mark_parent(b: u8, x: usize, parents: &[u32], has: &mut [u8])
-    requires { ⌜ Parents (now parents) × (1024 ≤ length (now has)) × (bitOf b 0 ≡ true → x < length (now parents)) ⌝ }
-    ensures { λ _. ⌜ Added (now (has .entry)) (λ v. (bitOf b 0 ≡ true) × (getD (now (parents .entry)) x 0 ≡ v)) (now (has .exit)) ⌝ }
+// Flags the parent of node x.
+fn mark_node(x: usize, parents: &[u32], has: &mut [u8])
+    requires { ⌜ Parents (now parents) × (1024 ≤ length (now has)) × (x < length (now parents)) ⌝ }
+    ensures { λ _. ⌜ Added (now (has .entry)) (λ v. getD (now (parents .entry)) x 0 ≡ v) (now (has .exit)) ⌝ }
 {
-    if b & 1 == 1 {
-        let p = parent_at(parents, x);
-        has[p] = 1;
+    let p = parent_at(parents, x);
+    has[p] = 1;
+}
+
+// Flags the parent of node x, if bit k of b is set.
+fn mark_parent(b: u8, k: usize, x: usize, parents: &[u32], has: &mut [u8])
+    requires { ⌜ Parents (now parents) × (1024 ≤ length (now has)) × (k < 8) × (bitOf b k ≡ true → x < length (now parents)) ⌝ }
+    ensures { λ _. ⌜ Added (now (has .entry)) (λ v. (bitOf b k ≡ true) × (getD (now (parents .entry)) x 0 ≡ v)) (now (has .exit)) ⌝ }
+{
+    if (b >> k) & 1 == 1 {
+        mark_node(x, parents, has);
         return;
     }
 }
 
-// Flags the parents of the nodes whose bits are set in a byte, node `first` being its lowest bit. It ends with the highest set bit.
+// Flags the parents of the nodes whose bits are set in a byte, node `first` being its lowest bit.
 fn mark_parents(byte: u8, first: usize, parents: &[u32], has: &mut [u8])
     requires { ⌜ Parents (now parents) × (1024 ≤ length (now has)) × (first ≤ 1024) × ((k : ℕ) → bitOf byte k ≡ true → first + k < length (now parents)) ⌝ }
     ensures { λ _. ⌜ Added (now (has .entry)) (FromByte (now (parents .entry)) byte first) (now (has .exit)) ⌝ }
 {
-    let mut b = byte;
-    let mut x = first;
-    while b != 0 {
-        mark_parent(b, x, parents, has);
-        b = b >> 1;
-        x += 1;
+    let mut k: usize = 0;
+    while k < 8 {
+        mark_parent(byte, k, first + k, parents, has);
+        k += 1;
     }
+}
+
+// Flags the parents of eight nodes, from node `first` on.
+fn mark_eight(first: usize, parents: &[u32], has: &mut [u8])
+    requires { ⌜ Parents (now parents) × (1024 ≤ length (now has)) × (first + 8 ≤ length (now parents)) ⌝ }
+    ensures { λ _. ⌜ Added (now (has .entry)) (Upto (λ k v. getD (now (parents .entry)) (first + k) 0 ≡ v) 8) (now (has .exit)) ⌝ }
+{
+    let mut k: usize = 0;
+    while k < 8 {
+        mark_node(first + k, parents, has);
+        k += 1;
+    }
+}
+
+// As mark_parents. Empty bytes, and full ones, as a wildcard's row has many, need no test of each bit.
+fn mark_byte(byte: u8, first: usize, parents: &[u32], has: &mut [u8])
+    requires { ⌜ Parents (now parents) × (1024 ≤ length (now has)) × (first ≤ 1024) × ((k : ℕ) → bitOf byte k ≡ true → first + k < length (now parents)) ⌝ }
+    ensures { λ _. ⌜ Added (now (has .entry)) (FromByte (now (parents .entry)) byte first) (now (has .exit)) ⌝ }
+{
+    if byte == 0 {
+        return;
+    }
+    if byte == 255 {
+        mark_eight(first, parents, has);
+        return;
+    }
+    mark_parents(byte, first, parents, has);
 }
 
 // Flags the parents of the nodes in row c. Node 0, the root, has none: the first byte is read without its lowest bit.
@@ -172,7 +205,7 @@ fn mark_row(w: &[u8], c: usize, parents: &[u32], has: &mut [u8])
     mark_parents(b, 1, parents, has);
     let mut i: usize = 1;
     while i < bytes {
-        mark_parents(w[at + i], 8 * i, parents, has);
+        mark_byte(w[at + i], 8 * i, parents, has);
         i += 1;
     }
 }

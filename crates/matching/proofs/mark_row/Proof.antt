@@ -33,17 +33,17 @@ mark-parents-requires c κs =
 loop-holds : tie.Need-loop-holds Inv-loop μ-loop
 loop-holds c = (omega arith, omega (arith, c .before .before .before .before .before .before .before .before .pre .0 .some), refl, λ h a. a)
 
-add-mark-parents : tie.Need-add-mark-parents Inv-loop μ-loop
-add-mark-parents c = omega (arith, c .before .before .before .before .before .before .before .before .before .before .pre .0 .few, c .before .before .before .before .before .before .before .before .before .before .pre .2, c .before .loop .inv .1)
+add-mark-byte : tie.Need-add-mark-byte Inv-loop μ-loop
+add-mark-byte c = omega (arith, c .before .before .before .before .before .before .before .before .before .before .pre .0 .few, c .before .before .before .before .before .before .before .before .before .before .pre .2, c .before .loop .inv .1)
 
-shared-slice-read-mark-parents : tie.Need-shared-slice-read-mark-parents Inv-loop μ-loop
-shared-slice-read-mark-parents c = omega (arith, c .before .before .before .before .before .before .before .before .before .before .before .pre .0 .few, c .before .before .before .before .before .before .before .before .before .before .before .pre .3, c .before .before .loop .inv .1)
+shared-slice-read-mark-byte : tie.Need-shared-slice-read-mark-byte Inv-loop μ-loop
+shared-slice-read-mark-byte c = omega (arith, c .before .before .before .before .before .before .before .before .before .before .before .pre .0 .few, c .before .before .before .before .before .before .before .before .before .before .before .pre .3, c .before .before .loop .inv .1)
 
-mul-mark-parents : tie.Need-mul-mark-parents Inv-loop μ-loop
-mul-mark-parents c = omega (arith, c .before .before .before .before .before .before .before .before .before .before .before .pre .0 .few, c .before .before .loop .inv .1)
+mul-mark-byte : tie.Need-mul-mark-byte Inv-loop μ-loop
+mul-mark-byte c = omega (arith, c .before .before .before .before .before .before .before .before .before .before .before .pre .0 .few, c .before .before .loop .inv .1)
 
-mark-parents-requires-2 : tie.Need-mark-parents-requires-2 Inv-loop μ-loop
-mark-parents-requires-2 c κs =
+mark-byte-requires : tie.Need-mark-byte-requires Inv-loop μ-loop
+mark-byte-requires c κs =
     let lb : getD (c .before .before .before .before .before .before .before .before .before .before .before .before .args .w .now) (128 * c .before .before .before .before .before .before .before .before .before .before .before .before .args .c + c .before .before .before .loop .i) 0 < 256 = omega (arith, c .before .before .before .before .before .before .before .before .before .before .before .shared-slice-known .given (128 * c .before .before .before .before .before .before .before .before .before .before .before .before .args .c + c .before .before .before .loop .i)) in
     (c .before .before .before .before .before .before .before .before .before .before .before .before .pre .0, omega (arith, c .before .before .before .before .before .before .before .before .before .before .before .before .pre .1, c .before .before .before .before .before .before .mark-parents .ensures .same, c .before .before .before .loop .inv .2), omega (arith, c .before .before .before .before .before .before .before .before .before .before .before .before .pre .0 .few, c .before .before .before .loop .inv .1), byte-inside _ _ (c .before .before .before .before .before .before .before .before .before .before .before .before .args .parents .now) (c .before .before .before .before .before .before .before .before .before .before .before .before .pre .4) (c .before .before .before .loop .i) (omega (arith, c .before .before .before .before .before .before .before .before .before .before .before .before .pre .0 .few, c .before .before .before .loop .inv .1)) lb)
 
@@ -56,7 +56,7 @@ loop-less c = search needs
 loop-again : tie.Need-loop-again Inv-loop μ-loop
 loop-again c =
     let lb : getD (c .before .before .before .before .before .before .before .before .before .before .before .before .before .before .before .args .w .now) (128 * c .before .before .before .before .before .before .before .before .before .before .before .before .before .before .before .args .c + c .before .before .before .before .before .before .loop .i) 0 < 256 = omega (arith, c .before .before .before .before .before .before .before .before .before .before .before .before .before .before .shared-slice-known .given (128 * c .before .before .before .before .before .before .before .before .before .before .before .before .before .before .before .args .c + c .before .before .before .before .before .before .loop .i)) in
-    (omega arith, omega arith, c .before .before .mark-parents2 .ensures .same ∙ c .before .before .before .before .before .before .loop .inv .2, λ h a. added-byte _ _ (c .before .before .before .before .before .before .before .before .before .before .before .before .before .before .before .args .parents .now) (c .before .before .before .before .before .before .before .before .before .before .before .before .before .before .before .pre .4) _ _ _ (c .before .before .before .before .before .before .loop .i) (c .before .before .before .before .before .before .loop .inv .0) lb (c .before .before .before .before .before .before .loop .inv .3 h a) (c .before .before .mark-parents2 .ensures))
+    (omega arith, omega arith, c .before .before .mark-byte .ensures .same ∙ c .before .before .before .before .before .before .loop .inv .2, λ h a. added-byte _ _ (c .before .before .before .before .before .before .before .before .before .before .before .before .before .before .before .args .parents .now) (c .before .before .before .before .before .before .before .before .before .before .before .before .before .before .before .pre .4) _ _ _ (c .before .before .before .before .before .before .loop .i) (c .before .before .before .before .before .before .loop .inv .0) lb (c .before .before .before .before .before .before .loop .inv .3 h a) (c .before .before .mark-byte .ensures))
 
 same-length : tie.Need-same-length Inv-loop μ-loop
 same-length c = c .before .loop .inv .2 ∙ c .before .before .before .before .mark-parents .ensures .same
@@ -77,10 +77,10 @@ mark-row-spec =
     shared-slice-read-b
     mark-parents-requires
     loop-holds
-    add-mark-parents
-    shared-slice-read-mark-parents
-    mul-mark-parents
-    mark-parents-requires-2
+    add-mark-byte
+    shared-slice-read-mark-byte
+    mul-mark-byte
+    mark-byte-requires
     add-i
     loop-less
     loop-again
