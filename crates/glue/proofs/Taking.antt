@@ -1,6 +1,5 @@
 -- A sign that is taken: what it does to the pending operands of the word, and so to the pool that holds their plain tree queries.
 use mathlib.Core.Path.{_≡_, refl, sym, ap, subst, _∙_}
-use mathlib.Core.Logic.{_⊎_, inl, inr, by-cases}
 use mathlib.Core.Bool.{Bool, true, false, cond}
 use mathlib.Core.Option.{some}
 use mathlib.Core.List.{List, [], _∷_, map}
@@ -8,15 +7,14 @@ use Prim.Native.Nat.{ℕ, zero, suc, _+_, _-_, _≤_, _<_}
 use native.Mathlib.Decide.{ℕ-discrete}
 use native.Mathlib.Omega.{arith}
 use lib.ListN.{length, getD, drop, length-map}
-use lib.Dec.{eqb, ltb}
+use lib.Dec.{ltb}
 use borrow.Author.Tests.{ltb-true, ne-eqb}
 use Rattle.meaning.specs.Basics.{mapped}
-use Rattle.meaning.specs.Expression.{Expr, self, child, parent, label, comp, inter, steps}
+use Rattle.meaning.specs.Expression.{Expr, label, steps}
 use Rattle.meaning.specs.TreeQuery.{Query}
-use Rattle.meaning.specs.Gluing.{two, oneNode, twoNodes, plain}
+use Rattle.meaning.specs.Gluing.{two, oneNode, plain}
 use Rattle.meaning.specs.Word.{refused, answered, operand as operandSign, unary, binary, signOf, isStep, Pending, onOne, onTwo, counted, pushed, takes}
 use Rattle.rows.specs.Rows.{labOf}
-use Rattle.word.proofs.Signs.{sign-label}
 use Rattle.theory.proofs.Look.{never}
 use Rattle.theory.proofs.Plain.{TreeO, AtMost, plain-means, means-tree, few-nodes}
 use Rattle.glue.specs.Rows.{ifRows, queryFrom, part}
@@ -148,61 +146,28 @@ module _ (p : Pool) (n v : ℕ) (e : Expr) (es : signOf v ≡ operandSign e) (ek
         few = w .within (h .few);
       }
 
--- "child a top s with one child d; parent the same with s and d exchanged"
-is-edge : (v : ℕ) → 2 ≤ v → v < 4 → (v ≡ 2) ⊎ (v ≡ 3)
-is-edge v le lt = by-cases (ℕ-discrete v 2) inl (λ ne. inr (omega arith))
-
-pub edge-asks : (p : Pool) (n v : ℕ) → 2 ≤ v → v < 4 → Passes p n v → (n < 256) × Sound p n × (getD (p .first) n 0 < 511) × (v - 2 < 2) × (3 - v < 2)
-unfolding signOf isStep
-edge-asks p n v le lt h = let q = go (is-edge v le lt) in (q .0, q .1, q .2, omega arith, omega arith)
-  where
-    go : (v ≡ 2) ⊎ (v ≡ 3) → (n < 256) × Sound p n × (getD (p .first) n 0 < 511)
-    go (inl e) = push-asks p n v child (ap signOf e) (rw e) h
-    go (inr e) = push-asks p n v parent (ap signOf e) (rw e) h
-
-pub edge-holds : (p : Pool) (n v : ℕ) → 2 ≤ v → v < 4 → (p′ : Pool) (r : ℕ) → Stands p′ r (some (twoNodes (v - 2) (3 - v)) ∷ stack p n)
-    → (st st′ : Pending) (at : ℕ) → Holds p n st → takes v st at ≡ answered st′ → Holds p′ r st′
-unfolding signOf isStep
-edge-holds p n v le lt p′ r s = go (is-edge v le lt)
-  where
-    at-sign : (k : ℕ) → v ≡ k → Stands p′ r (some (twoNodes (k - 2) (3 - k)) ∷ stack p n)
-    at-sign k e = subst (λ z. Stands p′ r (some (twoNodes (z - 2) (3 - z)) ∷ stack p n)) e s
-
-    go : (v ≡ 2) ⊎ (v ≡ 3) → (st st′ : Pending) (at : ℕ) → Holds p n st → takes v st at ≡ answered st′ → Holds p′ r st′
-    go (inl e) = push-holds p n v child (ap signOf e) (rw e) p′ r (at-sign 2 e)
-    go (inr e) = push-holds p n v parent (ap signOf e) (rw e) p′ r (at-sign 3 e)
+positive : (v : ℕ) → (v ≡ 0 → ⊥) → 1 ≤ v
+positive v ne = omega arith
 
 above : (v k : ℕ) → k ≤ v → (v ≡ k → ⊥) → suc k ≤ v
 above v k le ne = omega arith
 
--- "self and a label give one node": "9+L: label L"
-pub is-node : {v : ℕ} → (((((Unit {0} × (v ≡ 0 → ⊥)) × ((v ≡ 4) ⊎ (v ≡ 7) → ⊥)) × (v ≡ 5 → ⊥)) × (v ≡ 6 → ⊥)) × (v ≡ 8 → ⊥)) → (v < 2) ⊎ (4 ≤ v)
-    → (v ≡ 1) ⊎ (9 ≤ v)
-is-node {v} (((((u, a), b), c), d), e) (inl lt) = let z = above v 0 (omega arith) a in inl (omega arith)
-is-node {v} (((((u, a), b), c), d), e) (inr le) =
-    inr (above v 8 (above v 7 (above v 6 (above v 5 (above v 4 le (λ z. b (inl z))) c) d) (λ z. b (inr z))) e)
+-- "9+L: label L"
+pub is-label : {v : ℕ} → (((((((((Unit {0} × (v ≡ 0 → ⊥)) × (v ≡ 1 → ⊥)) × (v ≡ 2 → ⊥)) × (v ≡ 3 → ⊥)) × (v ≡ 4 → ⊥)) × (v ≡ 5 → ⊥)) × (v ≡ 6 → ⊥)) × (v ≡ 7 → ⊥)) × (v ≡ 8 → ⊥))
+    → 9 ≤ v
+is-label {v} (((((((((u, a), b), c), d), e), f), g), h), i) =
+    above v 8 (above v 7 (above v 6 (above v 5 (above v 4 (above v 3 (above v 2 (above v 1 (positive v a) b) c) d) e) f) g) h) i
 
-no-step : (v : ℕ) → 9 ≤ v → _≡_ {A = ℕ} 0 (cond (isStep v) 1 0)
+pub code-fits : {v : ℕ} → 9 ≤ v → 8 ≤ v
+code-fits le = omega arith
+
+pub no-step : (v : ℕ) → 9 ≤ v → _≡_ {A = ℕ} 0 (cond (isStep v) 1 0)
 unfolding isStep
 no-step v h = rw (ne-eqb v 2 (λ e. omega arith), ne-eqb v 3 (λ e. omega arith))
 
-pub node-asks : (p : Pool) (n v : ℕ) → (v ≡ 1) ⊎ (9 ≤ v) → Passes p n v → (n < 256) × Sound p n × (getD (p .first) n 0 < 511)
-unfolding signOf isStep
-node-asks p n v (inl e) = push-asks p n v self (ap signOf e) (rw e)
-node-asks p n v (inr le) = push-asks p n v (label (v - 9)) (sign-label v le) (no-step v le)
-
 -- "label code (0 wildcard, else L+1)"
-pub node-holds : (p : Pool) (n v c : ℕ) → (v ≡ 1) ⊎ (9 ≤ v) → c ≡ v - 8 → (p′ : Pool) (r : ℕ) → Stands p′ r (some (oneNode (labOf c)) ∷ stack p n)
-    → (st st′ : Pending) (at : ℕ) → Holds p n st → takes v st at ≡ answered st′ → Holds p′ r st′
-unfolding signOf isStep
-node-holds p n v c k ec p′ r s = go k
-  where
-    at-code : (k : ℕ) → c ≡ k → Stands p′ r (some (oneNode (labOf k)) ∷ stack p n)
-    at-code k e = subst (λ z. Stands p′ r (some (oneNode (labOf z)) ∷ stack p n)) e s
-
-    go : (v ≡ 1) ⊎ (9 ≤ v) → (st st′ : Pending) (at : ℕ) → Holds p n st → takes v st at ≡ answered st′ → Holds p′ r st′
-    go (inl e) = push-holds p n v self (ap signOf e) (rw e) p′ r (at-code 0 (omega arith))
-    go (inr le) = push-holds p n v (label (v - 9)) (sign-label v le) (no-step v le) p′ r (at-code (suc (v - 9)) (omega arith))
+pub label-stands : (p p′ : Pool) (n r v : ℕ) → 9 ≤ v → Stands p′ r (some (oneNode (labOf (v - 8))) ∷ stack p n) → Stands p′ r (plain (label (v - 9)) ∷ stack p n)
+label-stands p p′ n r v le s = subst (λ c. Stands p′ r (some (oneNode (labOf c)) ∷ stack p n)) (let z : v - 8 ≡ suc (v - 9) = omega arith in z) s
 
 -- ------------------------------------------------------------------ operators on one
 module _ (p : Pool) (n v : ℕ) (f : Expr → Expr) (es : signOf v ≡ unary f) where
@@ -253,14 +218,3 @@ module _ (p : Pool) (n v : ℕ) (f : Expr → Expr → Expr) (es : signOf v ≡ 
         count = rw (w .operands) (omega (arith, ek (w .earlier) (w .latest), h .count, w .count));
         few = omega (arith, w .count, h .few);
       }
-
-pub both-asks : (p : Pool) (n v : ℕ) → (v ≡ 4) ⊎ (v ≡ 7) → Passes p n v → (2 ≤ n) × Sound p n × Trees p n
-unfolding signOf
-both-asks p n v (inl e) = two-asks p n v comp (ap signOf e)
-both-asks p n v (inr e) = two-asks p n v inter (ap signOf e)
-
-pub both-holds : (p : Pool) (n v : ℕ) → (v ≡ 4) ⊎ (v ≡ 7) → (p′ : Pool) (r : ℕ) → Stands p′ r (combined (eqb v 7) (stack p n)) → (st st′ : Pending) (at : ℕ)
-    → Holds p n st → takes v st at ≡ answered st′ → Holds p′ r st′
-unfolding signOf
-both-holds p n v (inl e) p′ r s = two-holds p n v comp (ap signOf e) false (λ d e′. refl) (λ d e′. refl) p′ r (subst (λ k. Stands p′ r (combined (eqb k 7) (stack p n))) e s)
-both-holds p n v (inr e) p′ r s = two-holds p n v inter (ap signOf e) true (λ d e′. refl) (λ d e′. refl) p′ r (subst (λ k. Stands p′ r (combined (eqb k 7) (stack p n))) e s)

@@ -19,8 +19,9 @@ use word::sign::INTERSECTION;
 use word::sign::INVERSE;
 use word::sign::PARENT;
 use word::sign::SECOND_PROJECTION;
+use word::sign::SELF;
 ghost use mathlib.Core.Path.{_≡_};
-ghost use Prim.Native.Nat.{ℕ, _-_, _≤_};
+ghost use Prim.Native.Nat.{ℕ, _≤_};
 ghost use lib.ListN.{length};
 ghost use Rattle.meaning.specs.Expression.{Expr};
 ghost use Rattle.meaning.specs.Gluing.{plain};
@@ -30,16 +31,6 @@ ghost use Rattle.glue.specs.Pool.{pool, Holds, Passes, PlainRows};
 
 // "9+L: label L", and the code of label L is L+1.
 const CODE_TO_SIGN: u32 = FIRST_LABEL - 1;
-
-// The label code of a single node: the wildcard for self, which is below all labels.
-fn code_of(sign: u32) -> u32
-    ensures { λ r. ⌜ r ≡ sign - 8 ⌝ }
-{
-    if sign < FIRST_LABEL {
-        return 0;
-    }
-    sign - CODE_TO_SIGN
-}
 
 // One sign that the check of the word lets pass; gives the number of operands that are pending then.
 fn apply_sign(
@@ -56,19 +47,15 @@ fn apply_sign(
 {
     match sign {
         EMPTY => push_empty(first, pending),
-        // s of child is the top, row 0, and s of parent is row 1
-        CHILD | PARENT => {
-            let x = sign - CHILD;
-            let y = PARENT - sign;
-            push_edge(parent, label, first, s, d, pending, x as usize, y as usize)
-        }
-        COMPOSITION | INTERSECTION => {
-            combine(parent, label, first, s, d, pending, sign == INTERSECTION)
-        }
+        SELF => push_node(parent, label, first, s, d, pending, 0),
+        CHILD => push_edge(parent, label, first, s, d, pending, 0, 1),
+        PARENT => push_edge(parent, label, first, s, d, pending, 1, 0),
+        COMPOSITION => combine(parent, label, first, s, d, pending, false),
         FIRST_PROJECTION => both_at_s(s, d, pending),
         SECOND_PROJECTION => both_at_d(s, d, pending),
+        INTERSECTION => combine(parent, label, first, s, d, pending, true),
         INVERSE => exchange(s, d, pending),
-        _ => push_node(parent, label, first, s, d, pending, code_of(sign)),
+        _ => push_node(parent, label, first, s, d, pending, sign - CODE_TO_SIGN),
     }
 }
 

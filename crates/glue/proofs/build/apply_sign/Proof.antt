@@ -1,16 +1,17 @@
 -- Sign by sign: what the call asks for, and what it leaves.
 use mathlib.Core.Path.{refl, ap}
-use mathlib.Core.Logic.{inl, inr, ⊎-elim}
+use mathlib.Core.Bool.{true, false}
+use native.Mathlib.Omega.{arith}
 use borrow.Author.Needs.{needs}
-use Rattle.meaning.specs.Expression.{empty, proj1, proj2, inv}
+use Rattle.meaning.specs.Expression.{empty, self, child, parent, label, comp, inter, proj1, proj2, inv}
 use Rattle.meaning.specs.Gluing.{bothAtS, bothAtD, exchanged}
 use Rattle.meaning.specs.Word.{signOf, isStep}
-use Rattle.glue.proofs.Taking.{push-asks, push-holds, edge-asks, edge-holds, is-node, node-asks, node-holds, one-asks, one-holds, both-asks, both-holds}
+use Rattle.word.proofs.Signs.{sign-label}
+use Rattle.glue.proofs.Taking.{push-asks, push-holds, is-label, code-fits, no-step, label-stands, one-asks, one-holds, two-asks, two-holds}
 use Rattle.glue.proofs.build.apply_sign.Statement.{statement}
 use Rattle.glue.proofs.build.apply_sign.Tie as tie
 use Rattle.glue.proofs.build.apply_sign.Reads as reads
 use Rattle.glue.proofs.build.apply_sign.Lts as lts
-use Rattle.glue.proofs.build.code_of.Reads as code-of-reads
 use Rattle.glue.proofs.pool.both_at_d.Reads as both-at-d-reads
 use Rattle.glue.proofs.pool.both_at_s.Reads as both-at-s-reads
 use Rattle.glue.proofs.pool.combine.Reads as combine-reads
@@ -23,38 +24,43 @@ push-empty-requires : tie.Need-push-empty-requires
 unfolding signOf isStep
 push-empty-requires c κs = let q = push-asks _ _ _ empty (ap signOf (c .before .match .keys1)) (rw (c .before .match .keys1)) (c .before .before .before .before .before .before .before .pre) in (q .0, q .1 .firsts)
 
+push-node-requires : tie.Need-push-node-requires
+unfolding signOf isStep
+push-node-requires c κs = push-asks _ _ _ self (ap signOf (c .before .before .before .before .before .match .keys2)) (rw (c .before .before .before .before .before .match .keys2)) (c .before .before .before .before .before .before .before .before .before .before .before .pre)
+
+push-edge-requires : tie.Need-push-edge-requires
+unfolding signOf isStep
+push-edge-requires c κs = let q = push-asks _ _ _ child (ap signOf (c .before .before .before .before .before .match .keys3)) (rw (c .before .before .before .before .before .match .keys3)) (c .before .before .before .before .before .before .before .before .before .before .before .pre) in (q .0, q .1, q .2, omega arith, omega arith)
+
+push-edge-requires-2 : tie.Need-push-edge-requires-2
+unfolding signOf isStep
+push-edge-requires-2 c κs = let q = push-asks _ _ _ parent (ap signOf (c .before .before .before .before .before .match .keys4)) (rw (c .before .before .before .before .before .match .keys4)) (c .before .before .before .before .before .before .before .before .before .before .before .pre) in (q .0, q .1, q .2, omega arith, omega arith)
+
 combine-requires : tie.Need-combine-requires
-combine-requires c κs = both-asks _ _ _ (c .before .before .before .before .before .match .keys2) (c .before .before .before .before .before .before .before .before .before .before .before .pre)
+unfolding signOf isStep
+combine-requires c κs = two-asks _ _ _ comp (ap signOf (c .before .before .before .before .before .match .keys5)) (c .before .before .before .before .before .before .before .before .before .before .before .pre)
 
 both-at-s-requires : tie.Need-both-at-s-requires
 unfolding signOf isStep
-both-at-s-requires c κs = one-asks _ _ _ proj1 (ap signOf (c .before .before .match .keys3)) (c .before .before .before .before .before .before .before .before .pre)
+both-at-s-requires c κs = one-asks _ _ _ proj1 (ap signOf (c .before .before .match .keys6)) (c .before .before .before .before .before .before .before .before .pre)
 
 both-at-d-requires : tie.Need-both-at-d-requires
 unfolding signOf isStep
-both-at-d-requires c κs = one-asks _ _ _ proj2 (ap signOf (c .before .before .match .keys4)) (c .before .before .before .before .before .before .before .before .pre)
+both-at-d-requires c κs = one-asks _ _ _ proj2 (ap signOf (c .before .before .match .keys7)) (c .before .before .before .before .before .before .before .before .pre)
+
+combine-requires-2 : tie.Need-combine-requires-2
+unfolding signOf isStep
+combine-requires-2 c κs = two-asks _ _ _ inter (ap signOf (c .before .before .before .before .before .match .keys8)) (c .before .before .before .before .before .before .before .before .before .before .before .pre)
 
 exchange-requires : tie.Need-exchange-requires
 unfolding signOf isStep
-exchange-requires c κs = one-asks _ _ _ inv (ap signOf (c .before .before .match .keys5)) (c .before .before .before .before .before .before .before .before .pre)
+exchange-requires c κs = one-asks _ _ _ inv (ap signOf (c .before .before .match .keys9)) (c .before .before .before .before .before .before .before .before .pre)
 
-sub-y : tie.Need-sub-y
-sub-y c = search needs
+sub-push-node : tie.Need-sub-push-node
+sub-push-node c = code-fits (is-label (c .before .before .before .before .before .match .rest))
 
-cast-push-edge : tie.Need-cast-push-edge
-cast-push-edge c = search needs
-
-cast-push-edge-2 : tie.Need-cast-push-edge-2
-cast-push-edge-2 c = search needs
-
-push-edge-requires : tie.Need-push-edge-requires
-push-edge-requires c κs = edge-asks _ _ _ (c .before .before .before .before .before .before .if1 .left) (c .before .before .before .before .before .if2 .taken) (c .before .before .before .before .before .before .before .before .before .before .before .before .before .pre)
-
-code-of-requires : tie.Need-code-of-requires
-code-of-requires c κs = search needs
-
-push-node-requires : tie.Need-push-node-requires
-push-node-requires c κs = node-asks _ _ _ (is-node (c .before .before .before .before .before .before .before .match .rest) (⊎-elim (λ w. inl (w .taken)) (λ w. inr (w .1 .left)) (c .before .before .before .before .before .before .if1 .came))) (c .before .before .before .before .before .before .before .before .before .before .before .before .before .pre)
+push-node-requires-2 : tie.Need-push-node-requires-2
+push-node-requires-2 c κs = push-asks _ _ _ (label _) (sign-label _ (is-label (c .before .before .before .before .before .match .rest))) (no-step _ (is-label (c .before .before .before .before .before .match .rest))) (c .before .before .before .before .before .before .before .before .before .before .before .pre)
 
 same-length : tie.Need-same-length
 same-length c = search needs
@@ -79,7 +85,8 @@ same-length-6 : tie.Need-same-length-6
 same-length-6 c = search needs
 
 returns-2 : tie.Need-returns-2
-returns-2 c = both-holds _ _ _ (c .before .before .before .before .before .before .before .before .before .before .before .before .before .before .before .before .match .keys2) _ _ (c .before .before .before .before .before .before .before .before .before .before .combine .ensures)
+unfolding signOf isStep
+returns-2 c = push-holds _ _ _ self (ap signOf (c .before .before .before .before .before .before .before .before .before .before .before .before .before .before .before .before .match .keys2)) (rw (c .before .before .before .before .before .before .before .before .before .before .before .before .before .before .before .before .match .keys2)) _ _ (c .before .before .before .before .before .before .before .before .before .before .push-node .ensures)
 
 same-length-7 : tie.Need-same-length-7
 same-length-7 c = search needs
@@ -87,29 +94,21 @@ same-length-7 c = search needs
 same-length-8 : tie.Need-same-length-8
 same-length-8 c = search needs
 
-returns-3 : tie.Need-returns-3
-unfolding signOf isStep
-returns-3 c = one-holds _ _ _ proj1 (ap signOf (c .before .before .before .before .before .match .keys3)) bothAtS (λ e. refl) (λ e. refl) _ _ (c .before .before .both-at-s .ensures _ _ _)
-
 same-length-9 : tie.Need-same-length-9
 same-length-9 c = search needs
 
 same-length-10 : tie.Need-same-length-10
 same-length-10 c = search needs
 
-returns-4 : tie.Need-returns-4
-unfolding signOf isStep
-returns-4 c = one-holds _ _ _ proj2 (ap signOf (c .before .before .before .before .before .match .keys4)) bothAtD (λ e. refl) (λ e. refl) _ _ (c .before .before .both-at-d .ensures _ _ _)
-
 same-length-11 : tie.Need-same-length-11
 same-length-11 c = search needs
 
+returns-3 : tie.Need-returns-3
+unfolding signOf isStep
+returns-3 c = push-holds _ _ _ child (ap signOf (c .before .before .before .before .before .before .before .before .before .before .before .before .before .before .before .before .match .keys3)) (rw (c .before .before .before .before .before .before .before .before .before .before .before .before .before .before .before .before .match .keys3)) _ _ (c .before .before .before .before .before .before .before .before .before .before .push-edge .ensures)
+
 same-length-12 : tie.Need-same-length-12
 same-length-12 c = search needs
-
-returns-5 : tie.Need-returns-5
-unfolding signOf isStep
-returns-5 c = one-holds _ _ _ inv (ap signOf (c .before .before .before .before .before .before .before .match .keys5)) exchanged (λ e. refl) (λ e. refl) _ _ (c .before .before .before .before .exchange .ensures _ _ _)
 
 same-length-13 : tie.Need-same-length-13
 same-length-13 c = search needs
@@ -123,11 +122,12 @@ same-length-15 c = search needs
 same-length-16 : tie.Need-same-length-16
 same-length-16 c = search needs
 
+returns-4 : tie.Need-returns-4
+unfolding signOf isStep
+returns-4 c = push-holds _ _ _ parent (ap signOf (c .before .before .before .before .before .before .before .before .before .before .before .before .before .before .before .before .match .keys4)) (rw (c .before .before .before .before .before .before .before .before .before .before .before .before .before .before .before .before .match .keys4)) _ _ (c .before .before .before .before .before .before .before .before .before .before .push-edge2 .ensures)
+
 same-length-17 : tie.Need-same-length-17
 same-length-17 c = search needs
-
-returns-6 : tie.Need-returns-6
-returns-6 c = edge-holds _ _ _ (c .before .before .before .before .before .before .before .before .before .before .before .before .before .before .before .before .before .if1 .left) (c .before .before .before .before .before .before .before .before .before .before .before .before .before .before .before .before .if2 .taken) _ _ (c .before .before .before .before .before .before .before .before .before .before .push-edge .ensures)
 
 same-length-18 : tie.Need-same-length-18
 same-length-18 c = search needs
@@ -141,27 +141,92 @@ same-length-20 c = search needs
 same-length-21 : tie.Need-same-length-21
 same-length-21 c = search needs
 
+returns-5 : tie.Need-returns-5
+unfolding signOf isStep
+returns-5 c = two-holds _ _ _ comp (ap signOf (c .before .before .before .before .before .before .before .before .before .before .before .before .before .before .before .before .match .keys5)) false (λ d e. refl) (λ d e. refl) _ _ (c .before .before .before .before .before .before .before .before .before .before .combine .ensures)
+
 same-length-22 : tie.Need-same-length-22
 same-length-22 c = search needs
 
+same-length-23 : tie.Need-same-length-23
+same-length-23 c = search needs
+
+returns-6 : tie.Need-returns-6
+unfolding signOf isStep
+returns-6 c = one-holds _ _ _ proj1 (ap signOf (c .before .before .before .before .before .match .keys6)) bothAtS (λ e. refl) (λ e. refl) _ _ (c .before .before .both-at-s .ensures _ _ _)
+
+same-length-24 : tie.Need-same-length-24
+same-length-24 c = search needs
+
+same-length-25 : tie.Need-same-length-25
+same-length-25 c = search needs
+
 returns-7 : tie.Need-returns-7
-returns-7 c = node-holds _ _ _ _ (is-node (c .before .before .before .before .before .before .before .before .before .before .before .before .before .before .before .before .before .before .match .rest) (⊎-elim (λ w. inl (w .taken)) (λ w. inr (w .1 .left)) (c .before .before .before .before .before .before .before .before .before .before .before .before .before .before .before .before .before .if1 .came))) (c .before .before .before .before .before .before .before .before .before .before .before .code-of .ensures) _ _ (c .before .before .before .before .before .before .before .before .before .before .push-node .ensures)
+unfolding signOf isStep
+returns-7 c = one-holds _ _ _ proj2 (ap signOf (c .before .before .before .before .before .match .keys7)) bothAtD (λ e. refl) (λ e. refl) _ _ (c .before .before .both-at-d .ensures _ _ _)
+
+same-length-26 : tie.Need-same-length-26
+same-length-26 c = search needs
+
+same-length-27 : tie.Need-same-length-27
+same-length-27 c = search needs
+
+same-length-28 : tie.Need-same-length-28
+same-length-28 c = search needs
+
+same-length-29 : tie.Need-same-length-29
+same-length-29 c = search needs
+
+same-length-30 : tie.Need-same-length-30
+same-length-30 c = search needs
+
+returns-8 : tie.Need-returns-8
+unfolding signOf isStep
+returns-8 c = two-holds _ _ _ inter (ap signOf (c .before .before .before .before .before .before .before .before .before .before .before .before .before .before .before .before .match .keys8)) true (λ d e. refl) (λ d e. refl) _ _ (c .before .before .before .before .before .before .before .before .before .before .combine2 .ensures)
+
+same-length-31 : tie.Need-same-length-31
+same-length-31 c = search needs
+
+same-length-32 : tie.Need-same-length-32
+same-length-32 c = search needs
+
+returns-9 : tie.Need-returns-9
+unfolding signOf isStep
+returns-9 c = one-holds _ _ _ inv (ap signOf (c .before .before .before .before .before .before .before .match .keys9)) exchanged (λ e. refl) (λ e. refl) _ _ (c .before .before .before .before .exchange .ensures _ _ _)
+
+same-length-33 : tie.Need-same-length-33
+same-length-33 c = search needs
+
+same-length-34 : tie.Need-same-length-34
+same-length-34 c = search needs
+
+same-length-35 : tie.Need-same-length-35
+same-length-35 c = search needs
+
+same-length-36 : tie.Need-same-length-36
+same-length-36 c = search needs
+
+same-length-37 : tie.Need-same-length-37
+same-length-37 c = search needs
+
+returns-10 : tie.Need-returns-10
+returns-10 c = push-holds _ _ _ (label _) (sign-label _ (is-label (c .before .before .before .before .before .before .before .before .before .before .before .before .before .before .before .before .match .rest))) (no-step _ (is-label (c .before .before .before .before .before .before .before .before .before .before .before .before .before .before .before .before .match .rest))) _ _ (label-stands _ _ _ _ _ (is-label (c .before .before .before .before .before .before .before .before .before .before .before .before .before .before .before .before .match .rest)) (c .before .before .before .before .before .before .before .before .before .before .push-node2 .ensures))
 
 pub apply-sign-spec : {M : Type 1} → statement M
 apply-sign-spec =
     tie.close
     (tie.spec
     push-empty-requires
+    push-node-requires
+    push-edge-requires
+    push-edge-requires-2
     combine-requires
     both-at-s-requires
     both-at-d-requires
+    combine-requires-2
     exchange-requires
-    sub-y
-    cast-push-edge
-    cast-push-edge-2
-    push-edge-requires
-    code-of-requires
-    push-node-requires
+    sub-push-node
+    push-node-requires-2
     same-length
     returns
     same-length-2
@@ -172,22 +237,40 @@ apply-sign-spec =
     returns-2
     same-length-7
     same-length-8
-    returns-3
     same-length-9
     same-length-10
-    returns-4
     same-length-11
+    returns-3
     same-length-12
-    returns-5
     same-length-13
     same-length-14
     same-length-15
     same-length-16
+    returns-4
     same-length-17
-    returns-6
     same-length-18
     same-length-19
     same-length-20
     same-length-21
+    returns-5
     same-length-22
-    returns-7)
+    same-length-23
+    returns-6
+    same-length-24
+    same-length-25
+    returns-7
+    same-length-26
+    same-length-27
+    same-length-28
+    same-length-29
+    same-length-30
+    returns-8
+    same-length-31
+    same-length-32
+    returns-9
+    same-length-33
+    same-length-34
+    same-length-35
+    same-length-36
+    same-length-37
+    returns-10)
