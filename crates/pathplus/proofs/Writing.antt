@@ -16,6 +16,7 @@ use Rattle.meaning.specs.Promise.{fitting, written, lengthOf, roomAfter, Writes
 use Rattle.groups.specs.Put.{put}
 use Rattle.groups.proofs.Put.{put-front}
 use Rattle.tree.proofs.Laws.{answered-same}
+use Rattle.pathplus.specs.Answer.{Fitted}
 
 module _ (form : Option Query → List ℕ) (word room : List ℕ) where
   written-is : (o : Outcome Expr) → readWord word ≡ o → written form word room ≡ andThen o (λ e. fitting room (form (plain e)))
@@ -29,20 +30,32 @@ module _ (form : Option Query → List ℕ) (word room : List ℕ) where
   pub writes-refused : (n p : ℕ) → readWord word ≡ refused n p → Writes form word room (refused n p) room
   writes-refused n p r = writes-as (refused n p) (written-is (refused n p) r)
 
-  module _ (e : Expr) (r : readWord word ≡ answered e) where
-    -- refusal 7
-    pub writes-short : (k : ℕ) → k ≡ length (form (plain e)) → length room < k → Writes form word room (refused 7 k) room
-    writes-short k ek l =
-        subst (λ z. Writes form word room (refused 7 z) room) (sym ek)
-        (writes-as (refused 7 (length (form (plain e)))) (written-is (answered e) r ∙ ap (λ b. cond b (refused 7 (length (form (plain e)))) (answered (form (plain e)))) (lt-ltb (length room) (length (form (plain e))) (omega arith))))
+  -- what fits into the room, or not, is what the writer owes
+  pub writes-fitted : (e : Expr) → readWord word ≡ answered e → (bytes : List ℕ) → bytes ≡ form (plain e)
+      → (result : Outcome ℕ) (after : List ℕ) → Fitted bytes room result after → Writes form word room result after
+  writes-fitted e r bytes eb result after F =
+      let w = written-is (answered e) r in
+      record {
+        returned = F .returned ∙ ap (λ b. lengthOf (fitting room b)) eb ∙ sym (ap lengthOf w);
+        left = F .left ∙ ap (λ b. roomAfter room (fitting room b)) eb ∙ sym (ap (roomAfter room) w);
+      }
 
-    -- the answer
-    pub writes-done : (k : ℕ) (after : List ℕ) → k ≡ length (form (plain e)) → k ≤ length room → after ≡ put room 0 (form (plain e)) → Writes form word room (answered k) after
-    writes-done k after ek l ea =
-        let fits : length (form (plain e)) ≤ length room = omega arith in
-        subst (λ z. Writes form word room (answered z) after) (sym ek)
-        (subst (Writes form word room (answered (length (form (plain e))))) (sym (ea ∙ put-front room (form (plain e)) fits))
-        (writes-as (answered (form (plain e))) (written-is (answered e) r ∙ ap (λ b. cond b (refused 7 (length (form (plain e)))) (answered (form (plain e)))) (le-ltb (length room) (length (form (plain e))) fits))))
+module _ (bytes room : List ℕ) where
+  fitting-is : (b : Bool) → ltb (length room) (length bytes) ≡ b → fitting room bytes ≡ cond b (refused 7 (length bytes)) (answered bytes)
+  fitting-is b e = ap (λ x. cond x (refused 7 (length bytes)) (answered bytes)) e
+
+  -- refusal 7
+  pub fitted-short : (k : ℕ) → k ≡ length bytes → length room < k → Fitted bytes room (refused 7 k) room
+  fitted-short k ek l =
+      let s = fitting-is true (lt-ltb (length room) (length bytes) (omega arith)) in
+      record { returned = ap (refused 7) ek ∙ sym (ap lengthOf s); left = sym (ap (roomAfter room) s) }
+
+  -- the answer
+  pub fitted-done : (k : ℕ) (after : List ℕ) → k ≡ length bytes → k ≤ length room → after ≡ put room 0 bytes → Fitted bytes room (answered k) after
+  fitted-done k after ek l ea =
+      let fits : length bytes ≤ length room = omega arith in
+      let s = fitting-is false (le-ltb (length room) (length bytes) fits) in
+      record { returned = ap answered ek ∙ sym (ap lengthOf s); left = ea ∙ put-front room bytes fits ∙ sym (ap (roomAfter room) s) }
 
 -- what a writer says it has written is in the room
 pub done-fits : (form : Option Query → List ℕ) (word room : List ℕ) (k : ℕ) (after : List ℕ) → Writes form word room (answered k) after → k ≤ length room

@@ -6,7 +6,7 @@ use mathlib.Core.Option.{Option}
 use Prim.Native.Nat.{ℕ, _+_, _*_, _≤_}
 use Rattle.meaning.specs.TreeQuery.{Query}
 use Rattle.meaning.specs.Word.{Outcome, refused, answered}
-use Rattle.meaning.specs.Promise.{Writes, Question, Selected}
+use Rattle.meaning.specs.Promise.{fitting, lengthOf, roomAfter, Writes, Question, Selected}
 use Rattle.pathplus.specs.declared.Written.{Written}
 use Rattle.pathplus.specs.declared.Written.the-variants as Written
 use Rattle.pathplus.specs.declared.Told.{Told}
@@ -22,6 +22,11 @@ abbrev pub toldOf : Told → Outcome Bool
 toldOf Told.Yes = answered true
 toldOf Told.No = answered false
 toldOf (Told.Refused number place) = refused number place
+
+-- the bytes stand in the front of the room, or are refused with 7 where they do not fit
+pub record Fitted (bytes room : List ℕ) (result : Outcome ℕ) (after : List ℕ) : Type 0 where
+  pub returned : result ≡ lengthOf (fitting room bytes)
+  pub left : after ≡ roomAfter room (fitting room bytes)
 
 -- what the pair question is handed
 abbrev pub question : List ℕ → List ℕ → List ℕ → ℕ → ℕ → List ℕ → Question

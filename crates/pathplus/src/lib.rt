@@ -14,8 +14,11 @@ ghost use Rattle.meaning.specs.Matching.{goodTable, tableBytes};
 ghost use Rattle.meaning.specs.Promise.{PlainImage, MinimalImage, NormalForm, Selected};
 ghost use Rattle.tree.specs.Trees.{Accepted};
 ghost use Rattle.meaning.specs.Image.{plainImage, minimalImage};
-ghost use Rattle.meaning.specs.Normal.{normalForm};
-ghost use Rattle.pathplus.specs.Answer.{writtenOf, toldOf, question, numberOf, yesOf, Short, WritesC, SelectedC};
+ghost use Rattle.meaning.specs.Normal.{normal, normalForm, wordOf};
+ghost use Rattle.rows.specs.Rows.{treeRows};
+ghost use Rattle.image.specs.Listing.{listing};
+ghost use Rattle.normal.specs.Ways.{QueryRows};
+ghost use Rattle.pathplus.specs.Answer.{writtenOf, toldOf, Fitted, question, numberOf, yesOf, Short, WritesC, SelectedC};
 
 // The bytes of the match table: 256 rows of 128 bytes.
 const TABLE_BYTES: usize = 32768;
@@ -33,6 +36,46 @@ pub enum Told {
     Refused { number: u32, place: usize },
 }
 
+// The image of n rows in the front of the room, or refusal 7.
+fn fit_image(code: &[u32], mark: &[u8], kids: &[u16], n: usize, room: &mut [u8]) -> Written
+    requires { ⌜ (n ≤ 256) × (n ≤ length (now code)) × (n ≤ length (now mark)) × (n ≤ length (now kids)) ⌝ }
+    ensures { λ r. ⌜ Fitted (listing (now (code .entry)) (now (mark .entry)) (now (kids .entry)) n) (now (room .entry)) (writtenOf r) (now (room .exit)) ⌝ }
+{
+    let length = image::image_length(code, mark, kids, n);
+    if room.len() < length {
+        return Written::Refused {
+            number: ROOM_TOO_SHORT,
+            place: length,
+        };
+    }
+    image::write_image(code, mark, kids, n, room);
+    Written::Done { length }
+}
+
+// The normal form of n rows in the front of the room, or refusal 7.
+fn fit_form(
+    code: &[u32],
+    mark: &[u8],
+    kids: &[u16],
+    span: &[u16],
+    up: &[u16],
+    n: usize,
+    room: &mut [u8],
+) -> Written
+    requires { ⌜ QueryRows (now code) (now mark) (now kids) (now span) (now up) n ⌝ }
+    ensures { λ r. ⌜ Fitted (wordOf (normal (treeRows (now (code .entry)) (now (mark .entry)) (now (span .entry)) n))) (now (room .entry)) (writtenOf r) (now (room .exit)) ⌝ }
+{
+    let length = normal::form_length(code, mark, kids, span, up, n);
+    if room.len() < length {
+        return Written::Refused {
+            number: ROOM_TOO_SHORT,
+            place: length,
+        };
+    }
+    normal::write_form(code, mark, kids, span, up, n, room);
+    Written::Done { length }
+}
+
 // The plain image of an accepted word.
 fn write_plain_image(word: &[u8], room: &mut [u8]) -> Written
     requires { ⌜ Accepted (now word) ⌝ }
@@ -44,15 +87,7 @@ fn write_plain_image(word: &[u8], room: &mut [u8]) -> Written
     let mut span = [0u16; 256];
     let mut up = [0u16; 256];
     let n = tree::plain_rows(word, &mut code, &mut mark, &mut kids, &mut span, &mut up);
-    let length = image::image_length(&code, &mark, &kids, n);
-    if room.len() < length {
-        return Written::Refused {
-            number: ROOM_TOO_SHORT,
-            place: length,
-        };
-    }
-    image::write_image(&code, &mark, &kids, n, room);
-    Written::Done { length }
+    fit_image(&code, &mark, &kids, n, room)
 }
 
 // The minimal image of an accepted word.
@@ -66,15 +101,7 @@ fn write_minimal_image(word: &[u8], room: &mut [u8]) -> Written
     let mut span = [0u16; 256];
     let mut up = [0u16; 256];
     let n = tree::minimal_rows(word, &mut code, &mut mark, &mut kids, &mut span, &mut up);
-    let length = image::image_length(&code, &mark, &kids, n);
-    if room.len() < length {
-        return Written::Refused {
-            number: ROOM_TOO_SHORT,
-            place: length,
-        };
-    }
-    image::write_image(&code, &mark, &kids, n, room);
-    Written::Done { length }
+    fit_image(&code, &mark, &kids, n, room)
 }
 
 // The normal form of an accepted word.
@@ -88,15 +115,7 @@ fn write_normal_form(word: &[u8], room: &mut [u8]) -> Written
     let mut span = [0u16; 256];
     let mut up = [0u16; 256];
     let n = tree::minimal_rows(word, &mut code, &mut mark, &mut kids, &mut span, &mut up);
-    let length = normal::form_length(&code, &mark, &kids, &span, &up, n);
-    if room.len() < length {
-        return Written::Refused {
-            number: ROOM_TOO_SHORT,
-            place: length,
-        };
-    }
-    normal::write_form(&code, &mark, &kids, &span, &up, n, room);
-    Written::Done { length }
+    fit_form(&code, &mark, &kids, &span, &up, n, room)
 }
 
 // The plain tree image of a word: refusals 1 to 6, then 7, or the image in the first bytes of the room.

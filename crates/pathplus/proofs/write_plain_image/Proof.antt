@@ -1,89 +1,65 @@
-use mathlib.Core.Path.{sym, ap, _∙_}
-use lib.ListN.{length}
 use Rattle.meaning.specs.Gluing.{plain}
 use Rattle.meaning.specs.Tree.{plainTree}
-use Rattle.meaning.specs.Folding.{minimal}
 use Rattle.meaning.specs.Image.{plainImage}
-use Rattle.groups.specs.Put.{put}
-use Rattle.pathplus.proofs.Writing.{writes-short, writes-done}
+use Rattle.pathplus.proofs.Writing.{writes-fitted}
 use Rattle.pathplus.proofs.OfRows.{image-listed}
 use borrow.Author.Needs.{needs}
 use Rattle.pathplus.proofs.write_plain_image.Statement.{statement}
 use Rattle.pathplus.proofs.write_plain_image.Tie as tie
 use Rattle.pathplus.proofs.write_plain_image.Reads as reads
 use Rattle.pathplus.proofs.write_plain_image.Lts as lts
-use Rattle.image.proofs.image_length.Reads as image-length-reads
-use Rattle.image.proofs.write_image.Reads as write-image-reads
+use Rattle.pathplus.proofs.fit_image.Reads as fit-image-reads
 use Rattle.tree.proofs.plain_rows.Reads as plain-rows-reads
 
--- src/lib.rt:44:36
+-- src/lib.rt:89:36
 slice-aggregate-plain-rows : tie.Need-slice-aggregate-plain-rows
 slice-aggregate-plain-rows c = search needs
 
--- src/lib.rt:44:47
+-- src/lib.rt:89:47
 slice-aggregate-plain-rows-2 : tie.Need-slice-aggregate-plain-rows-2
 slice-aggregate-plain-rows-2 c = search needs
 
--- src/lib.rt:44:58
+-- src/lib.rt:89:58
 slice-aggregate-plain-rows-3 : tie.Need-slice-aggregate-plain-rows-3
 slice-aggregate-plain-rows-3 c = search needs
 
--- src/lib.rt:44:69
+-- src/lib.rt:89:69
 slice-aggregate-plain-rows-4 : tie.Need-slice-aggregate-plain-rows-4
 slice-aggregate-plain-rows-4 c = search needs
 
--- src/lib.rt:44:80
+-- src/lib.rt:89:80
 slice-aggregate-plain-rows-5 : tie.Need-slice-aggregate-plain-rows-5
 slice-aggregate-plain-rows-5 c = search needs
 
--- src/lib.rt:44:9
+-- src/lib.rt:89:9
 plain-rows-requires : tie.Need-plain-rows-requires
 plain-rows-requires c κs = search needs
 
--- src/lib.rt:45:38
-slice-aggregate-image-length : tie.Need-slice-aggregate-image-length
-slice-aggregate-image-length c = search needs
+-- src/lib.rt:90:15
+slice-aggregate-fit-image : tie.Need-slice-aggregate-fit-image
+slice-aggregate-fit-image c = search needs
 
--- src/lib.rt:45:45
-slice-aggregate-image-length-2 : tie.Need-slice-aggregate-image-length-2
-slice-aggregate-image-length-2 c = search needs
+-- src/lib.rt:90:22
+slice-aggregate-fit-image-2 : tie.Need-slice-aggregate-fit-image-2
+slice-aggregate-fit-image-2 c = search needs
 
--- src/lib.rt:45:52
-slice-aggregate-image-length-3 : tie.Need-slice-aggregate-image-length-3
-slice-aggregate-image-length-3 c = search needs
+-- src/lib.rt:90:29
+slice-aggregate-fit-image-3 : tie.Need-slice-aggregate-fit-image-3
+slice-aggregate-fit-image-3 c = search needs
 
--- src/lib.rt:45:9
-image-length-requires : tie.Need-image-length-requires
-image-length-requires c κs = search needs
+-- src/lib.rt:90:5
+fit-image-requires : tie.Need-fit-image-requires
+fit-image-requires c κs = search needs
 
--- src/lib.rt:47:9
-returns : tie.Need-returns
-returns c = writes-short plainImage _ _ (c .before .before .before .before .before .before .before .before .before .before .before .before .before .before .before .before .before .before .pre .0) (c .before .before .before .before .before .before .before .before .before .before .before .before .before .before .before .before .before .before .pre .1) _ (c .before .image-length .ensures ∙ ap length (image-listed (λ e. plainTree (plain e)) _ _ _ _ _ _ _ (c .before .before .before .before .before .before .before .before .before .before .plain-rows .ensures) (c .before .before .before .before .before .before .before .before .before .before .before .before .before .before .before .before .before .before .pre .0) (c .before .before .before .before .before .before .before .before .before .before .before .before .before .before .before .before .before .before .pre .1))) (c .if1 .taken)
-
--- src/lib.rt:49:24
-slice-aggregate-write-image : tie.Need-slice-aggregate-write-image
-slice-aggregate-write-image c = search needs
-
--- src/lib.rt:49:31
-slice-aggregate-write-image-2 : tie.Need-slice-aggregate-write-image-2
-slice-aggregate-write-image-2 c = search needs
-
--- src/lib.rt:49:38
-slice-aggregate-write-image-3 : tie.Need-slice-aggregate-write-image-3
-slice-aggregate-write-image-3 c = search needs
-
--- src/lib.rt:49:5
-write-image-requires : tie.Need-write-image-requires
-write-image-requires c κs = search needs
-
--- src/lib.rt:35:1
+-- src/lib.rt:80:1
 same-length : tie.Need-same-length
 same-length c = search needs
 
--- src/lib.rt:35:1
-returns-2 : tie.Need-returns-2
-returns-2 c = writes-done plainImage _ _ (c .before .before .before .before .before .before .before .before .before .before .before .before .before .before .before .before .before .before .before .before .before .before .before .before .before .pre .0) (c .before .before .before .before .before .before .before .before .before .before .before .before .before .before .before .before .before .before .before .before .before .before .before .before .before .pre .1) _ _ (c .before .before .before .before .before .before .before .before .image-length .ensures ∙ ap length (image-listed (λ e. plainTree (plain e)) _ _ _ _ _ _ _ (c .before .before .before .before .before .before .before .before .before .before .before .before .before .before .before .before .before .plain-rows .ensures) (c .before .before .before .before .before .before .before .before .before .before .before .before .before .before .before .before .before .before .before .before .before .before .before .before .before .pre .0) (c .before .before .before .before .before .before .before .before .before .before .before .before .before .before .before .before .before .before .before .before .before .before .before .before .before .pre .1))) (c .before .before .before .before .before .before .before .if1 .left)
-    (c .before .before .write-image .ensures .1 ∙ ap (put _ 0) (image-listed (λ e. plainTree (plain e)) _ _ _ _ _ _ _ (c .before .before .before .before .before .before .before .before .before .before .before .before .before .before .before .before .before .plain-rows .ensures) (c .before .before .before .before .before .before .before .before .before .before .before .before .before .before .before .before .before .before .before .before .before .before .before .before .before .pre .0) (c .before .before .before .before .before .before .before .before .before .before .before .before .before .before .before .before .before .before .before .before .before .before .before .before .before .pre .1)))
+-- src/lib.rt:80:1
+returns : tie.Need-returns
+returns c =
+    let p = c .before .before .before .before .before .before .before .before .before .before .before .before .before .before .before .before .before .before .before .before .pre in
+    writes-fitted plainImage _ _ (p .0) (p .1) _ (image-listed (λ e. plainTree (plain e)) _ _ _ _ _ _ _ (c .before .before .before .before .before .before .before .before .before .before .before .before .plain-rows .ensures) (p .0) (p .1)) _ _ (c .before .before .fit-image .ensures)
 
 pub write-plain-image-spec : {M : Type 1} → statement M
 write-plain-image-spec =
@@ -95,14 +71,9 @@ write-plain-image-spec =
     slice-aggregate-plain-rows-4
     slice-aggregate-plain-rows-5
     plain-rows-requires
-    slice-aggregate-image-length
-    slice-aggregate-image-length-2
-    slice-aggregate-image-length-3
-    image-length-requires
-    returns
-    slice-aggregate-write-image
-    slice-aggregate-write-image-2
-    slice-aggregate-write-image-3
-    write-image-requires
+    slice-aggregate-fit-image
+    slice-aggregate-fit-image-2
+    slice-aggregate-fit-image-3
+    fit-image-requires
     same-length
-    returns-2)
+    returns)
