@@ -4,7 +4,7 @@ use mathlib.Core.Path.{_≡_, refl, sym, ap, _∙_}
 use mathlib.Core.Logic.{_⊎_, inl, inr}
 use mathlib.Core.Bool.{Bool, true, false, not}
 use mathlib.Core.List.{List}
-use Prim.Native.Nat.{ℕ, zero, suc, _+_, _%_, _≤_, _<_}
+use Prim.Native.Nat.{ℕ, zero, suc, _+_, _*_, _%_, _≤_, _<_}
 use native.Mathlib.Omega.{arith}
 use native.Mathlib.Decide.{ℕ-discrete}
 use lib.ListN.{getD}
@@ -12,10 +12,10 @@ use lib.Dec.{ltb, eqb}
 use borrow.Author.Tests.{lt-ltb, le-ltb, eq-eqb, ne-eqb, eqb-true, eqb-false, not-true, not-false}
 use Rattle.meaning.specs.Basics.{is, decBoth}
 use Rattle.meaning.specs.Tree.{Forest, bare, tree}
-use Rattle.meaning.specs.Folding.{LabLe, MarkLe, TagLe, Onto, decMark, decTag, decOnto}
+use Rattle.meaning.specs.Folding.{LabLe, MarkLe, TagLe, Folds, Onto, decMark, decTag, decFolds, decOnto}
 use Rattle.rows.specs.Rows.{labOf, tagAt, below, Holds}
 use Rattle.rows.proofs.Rows.{Opens, holds-first}
-use Rattle.fold.specs.Kept.{leftBelow, marksFit, OntoRow, ontoRow, height, Stands}
+use Rattle.fold.specs.Kept.{leftBelow, marksFit, belowFold, OntoRow, ontoRow, height, Stands}
 use Rattle.fold.proofs.Brothers.{Top, Over, Lands, over-start, over-child, over-step, over-next, over-all, any-of-row, row-of-any, folds-of-rows, row-of-folds}
 
 -- ------------------------------------------------------------------ decisions as truth values
@@ -102,6 +102,9 @@ module _ (code mark : List ℕ) (u v : ℕ) where
 abbrev ontoDec : (code mark span up : List ℕ) (u v : ℕ) → Dec (OntoRow code mark span up u v)
 ontoDec code mark span up u v = decOnto (tagAt code mark u) (leftBelow code mark span up u) (tagAt code mark v) (leftBelow code mark span up v)
 
+abbrev foldsDec : (code mark span up : List ℕ) (u v : ℕ) → Dec (Folds (leftBelow code mark span up u) (leftBelow code mark span up v))
+foldsDec code mark span up u v = decFolds (leftBelow code mark span up u) (leftBelow code mark span up v)
+
 module _ (code mark span up : List ℕ) where
   pub stands-child : (u a : ℕ) → Stands code mark span up u → Opens span a (u + getD span u 0) → Stands code mark span up a
   stands-child u a S o =
@@ -132,20 +135,28 @@ module _ (code mark span up : List ℕ) where
     unfolding ontoRow
     onto-no-tag e = is-no (ontoDec code mark span up u v) (λ o. false-is (tagDec code mark u v) e (o .0))
 
+    onto-below : is (decTag (tagAt code mark u) (tagAt code mark v)) ≡ true → belowFold code mark span up u v ≡ ontoRow code mark span up u v
+    unfolding belowFold ontoRow
+    onto-below e = go (foldsDec code mark span up u v)
+      where
+        go : (d : Dec (Folds (leftBelow code mark span up u) (leftBelow code mark span up v))) → is d ≡ is (ontoDec code mark span up u v)
+        go (yes f) = is-yes (ontoDec code mark span up u v) (true-is (tagDec code mark u v) e, f)
+        go (no n) = is-no (ontoDec code mark span up u v) (λ o. n (o .1))
+
     module _ (S : Stands code mark span up u) (R : Stands code mark span up v) where
-      onto-each : is (decTag (tagAt code mark u) (tagAt code mark v)) ≡ true → ((x : ℕ) → Top x (below span u) → Lands code mark span up u (leftBelow code mark span up v) x) → true ≡ ontoRow code mark span up u v
-      unfolding ontoRow
-      onto-each e f = is-yes (ontoDec code mark span up u v) (true-is (tagDec code mark u v) e, folds-of-rows code mark span up u (leftBelow code mark span up v) _ _ (below span u) (S .held) f)
+      below-each : ((x : ℕ) → Top x (below span u) → Lands code mark span up u (leftBelow code mark span up v) x) → true ≡ belowFold code mark span up u v
+      unfolding belowFold
+      below-each f = is-yes (foldsDec code mark span up u v) (folds-of-rows code mark span up u (leftBelow code mark span up v) _ _ (below span u) (S .held) f)
 
       onto-some : (a b : ℕ) → Top b (below span v) → getD up b 0 ≡ v → OntoRow code mark span up a b → Lands code mark span up u (leftBelow code mark span up v) a
       onto-some a b t q o d = any-of-row code mark span up v (Onto (tagAt code mark a) (leftBelow code mark span up a)) _ _ (below span v) (R .held) b t q o
 
-      onto-none : (a : ℕ) → Top a (below span u) → getD up a 0 ≡ u
-          → ((y : ℕ) → Top y (below span v) → Misses v a y) → false ≡ ontoRow code mark span up u v
-      unfolding ontoRow
-      onto-none a t q n =
-          is-no (ontoDec code mark span up u v) (λ o.
-          let x = row-of-folds code mark span up u (leftBelow code mark span up v) _ _ (below span u) (S .held) (o .1) a t q in
+      below-none : (a : ℕ) → Top a (below span u) → getD up a 0 ≡ u
+          → ((y : ℕ) → Top y (below span v) → Misses v a y) → false ≡ belowFold code mark span up u v
+      unfolding belowFold
+      below-none a t q n =
+          is-no (foldsDec code mark span up u v) (λ o.
+          let x = row-of-folds code mark span up u (leftBelow code mark span up v) _ _ (below span u) (S .held) o a t q in
           let w = row-of-any code mark span up v (Onto (tagAt code mark a) (leftBelow code mark span up a)) _ _ (below span v) (R .held) x in
           n (w .row) (w .top) (w .there) (w .so))
 
@@ -166,11 +177,20 @@ module _ {code mark span up : List ℕ} {u v : ℕ} (S : Stands code mark span u
   pub starts : {eu : ℕ} → eu ≡ u + getD span u 0 → Over span u (Lands code mark span up u (leftBelow code mark span up v)) (u + 1) eu
   starts {eu} e = over-start span u (Lands code mark span up u (leftBelow code mark span up v)) eu e (S .held)
 
+  -- u fits v, and has nothing below it
+  pub lone : {r : Bool} → r ≡ is (decTag (tagAt code mark u) (tagAt code mark v)) → not r ≡ false → getD span u 0 ≡ 1 → true ≡ ontoRow code mark span up u v
+  lone {r} e f q =
+      below-each code mark span up u v S R (over-all (starts (ap (u +_) (sym q))) (omega arith)) ∙ onto-below code mark span up u v (sym e ∙ not-false r f)
+
+  -- u fits v, and the rest is told by what is below them
+  pub rest : {r : Bool} → r ≡ is (decTag (tagAt code mark u) (tagAt code mark v)) → not r ≡ false → {w : Bool} → w ≡ belowFold code mark span up u v → w ≡ ontoRow code mark span up u v
+  rest {r} e f g = g ∙ onto-below code mark span up u v (sym e ∙ not-false r f)
+
   -- the loop over the children of u stands at row a
   module _ {a eu : ℕ} (O : Over span u (Lands code mark span up u (leftBelow code mark span up v)) a eu) where
     -- no child is left
-    pub each : {r : Bool} → r ≡ is (decTag (tagAt code mark u) (tagAt code mark v)) → not r ≡ false → eu ≤ a → true ≡ ontoRow code mark span up u v
-    each {r} e f l = onto-each code mark span up u v S R (sym e ∙ not-false r f) (over-all O l)
+    pub each : eu ≤ a → true ≡ belowFold code mark span up u v
+    each l = below-each code mark span up u v S R (over-all O l)
 
     module _ (l : a < eu) where
       pub leap : {s : ℕ} → s ≡ getD span a 0 → (1 ≤ s) × (a + s ≤ eu)
@@ -183,16 +203,17 @@ module _ {code mark span up : List ℕ} {u v : ℕ} (S : Stands code mark span u
 
       -- a is there and misses every child of v
       pub none : {r : Bool} → r ≡ eqb (getD up a 0) u → r ≡ true → {b ev : ℕ} → Over span v (Misses code mark span up v a) b ev → ev ≤ b
-          → false ≡ ontoRow code mark span up u v
-      none e f I m = onto-none code mark span up u v S R a (over-child O l .0) (eqb-true (getD up a 0) u (sym e ∙ f)) (over-all I m)
+          → false ≡ belowFold code mark span up u v
+      none e f I m = below-none code mark span up u v S R a (over-child O l .0) (eqb-true (getD up a 0) u (sym e ∙ f)) (over-all I m)
 
 -- the loop over the children of u stands at row a (called a₀ where the loop over the children of v began), the latter at row b
 module _ {code mark span up : List ℕ} {u v : ℕ} (S : Stands code mark span up u) (R : Stands code mark span up v) {a a₀ b eu ev : ℕ}
     (O : Over span u (Lands code mark span up u (leftBelow code mark span up v)) a₀ eu) (l : a₀ < eu) (q : a ≡ a₀) (I : Over span v (Misses code mark span up v a₀) b ev) (m : b < ev) where
-  pub calls : {t : ℕ} → height (below span u) ≡ t → (height (below span a) < t) × (Stands code mark span up a × Stands code mark span up b)
+  pub calls : {t : ℕ} → 2 * height (below span u) ≡ t → (2 * height (below span a) + 1 < t) × (Stands code mark span up a × Stands code mark span up b)
   calls h =
-      let c = over-child O l in (
-        rw (q, ← h) (height-child span _ _ (below span u) (S .held) a₀ (c .0)),
+      let c = over-child O l in
+      let z = height-child span _ _ (below span u) (S .held) a₀ (c .0) in (
+        rw q (omega arith),
         (rw q (stands-child code mark span up u a₀ S (c .1)), stands-child code mark span up v b R (over-child I m .1)),
       )
 

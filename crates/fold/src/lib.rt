@@ -9,7 +9,7 @@ ghost use mathlib.Core.Bool.{not, _&&_};
 ghost use Rattle.meaning.specs.Basics.{is};
 ghost use Rattle.meaning.specs.Folding.{decTag};
 ghost use Rattle.rows.specs.Rows.{tagAt, noRow};
-ghost use Rattle.fold.specs.Kept.{marksFit, ontoRow, Stands, ChildrenFolded, Whole, RowsFolded, parentMoved, Movable, RowMoved, Remains, RowsKept};
+ghost use Rattle.fold.specs.Kept.{marksFit, belowFold, ontoRow, Stands, ChildrenFolded, Whole, RowsFolded, parentMoved, Movable, RowMoved, Remains, RowsKept};
 
 const GONE: u16 = 65534;
 
@@ -70,13 +70,10 @@ fn is_child(up: &[u16], p: usize, c: usize) -> bool
 }
 
 // "every child of u folds onto some child of v"
-pub fn folds_onto(code: &[u32], mark: &[u8], span: &[u16], up: &[u16], u: usize, v: usize) -> bool
+fn children_fold(code: &[u32], mark: &[u8], span: &[u16], up: &[u16], u: usize, v: usize) -> bool
     requires { ⌜ Stands (now code) (now mark) (now span) (now up) u × Stands (now code) (now mark) (now span) (now up) v ⌝ }
-    ensures { λ r. ⌜ r ≡ ontoRow (now (code .entry)) (now (mark .entry)) (now (span .entry)) (now (up .entry)) u v ⌝ }
+    ensures { λ r. ⌜ r ≡ belowFold (now (code .entry)) (now (mark .entry)) (now (span .entry)) (now (up .entry)) u v ⌝ }
 {
-    if !fits(code, mark, u, v) {
-        return false;
-    }
     let u_end = u + span_at(span, u);
     let v_end = v + span_at(span, v);
     let mut a = u + 1;
@@ -97,6 +94,21 @@ pub fn folds_onto(code: &[u32], mark: &[u8], span: &[u16], up: &[u16], u: usize,
         a += span_at(span, a);
     }
     true
+}
+
+// "u's label is a wildcard or equals v's, u's marks are among v's, and every child of u folds onto some child of v".
+// Most pairs differ in their labels already: they cost no call.
+pub fn folds_onto(code: &[u32], mark: &[u8], span: &[u16], up: &[u16], u: usize, v: usize) -> bool
+    requires { ⌜ Stands (now code) (now mark) (now span) (now up) u × Stands (now code) (now mark) (now span) (now up) v ⌝ }
+    ensures { λ r. ⌜ r ≡ ontoRow (now (code .entry)) (now (mark .entry)) (now (span .entry)) (now (up .entry)) u v ⌝ }
+{
+    if !fits(code, mark, u, v) {
+        return false;
+    }
+    if span_at(span, u) == 1 {
+        return true;
+    }
+    children_fold(code, mark, span, up, u, v)
 }
 
 // Row b is a child of row p that is still there, and not row a.
