@@ -5,11 +5,12 @@ use mathlib.Core.Logic.{_⊎_}
 use mathlib.Core.Bool.{Bool, cond}
 use mathlib.Core.List.{List}
 use Prim.Native.Nat.{ℕ, suc, _+_, _%_, _≤_, _<_, max}
+use native.Mathlib.Decide.{ℕ-discrete}
 use lib.ListN.{length, getD, set}
 use lib.Dec.{ltb, eqb}
 use Rattle.meaning.specs.Basics.{is, decBoth}
 use Rattle.meaning.specs.Tree.{Forest, bare, tree, Tag, Any, size}
-use Rattle.meaning.specs.Folding.{Folds, Onto, decMark, decOnto, minimal}
+use Rattle.meaning.specs.Folding.{Folds, Onto, decMark, decTag, decFolds, decOnto, minimal}
 use Rattle.meaning.specs.Image.{ordered}
 use Rattle.rows.specs.Rows.{tagAt, below, shape, mapT, treeRows, Holds, Hung, width, noRow, Rows}
 use Rattle.order.specs.Table.{tableTree, TreeTable, ParentsFirst}
@@ -40,6 +41,14 @@ keptTree code mark span up n = left code mark up noRow (shape span n)
 -- "u's marks are among v's", by the numbers of the marks
 unfoldable pub marksFit : ℕ → ℕ → Bool
 marksFit s t = is (decBoth (decMark (eqb (s % 2) 1) (eqb (t % 2) 1)) (decMark (ltb 1 s) (ltb 1 t)))
+
+-- row b is a child of row v that is still there, and row a's label and marks fit it
+unfoldable pub fitsChild : List ℕ → List ℕ → List ℕ → ℕ → ℕ → ℕ → Bool
+fitsChild code mark up v a b = is (decBoth (ℕ-discrete (getD up b 0) v) (decTag (tagAt code mark a) (tagAt code mark b)))
+
+-- "every child of u folds onto some child of v"
+unfoldable pub belowFold : List ℕ → List ℕ → List ℕ → List ℕ → ℕ → ℕ → Bool
+belowFold code mark span up u v = is (decFolds (leftBelow code mark span up u) (leftBelow code mark span up v))
 
 -- row u folds onto row v
 abbrev pub OntoRow : List ℕ → List ℕ → List ℕ → List ℕ → ℕ → ℕ → Type 0

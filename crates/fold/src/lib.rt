@@ -7,9 +7,9 @@ ghost use lib.Dec.{eqb};
 ghost use mathlib.Core.Logic.{_⊎_};
 ghost use mathlib.Core.Bool.{not, _&&_};
 ghost use Rattle.meaning.specs.Basics.{is};
-ghost use Rattle.meaning.specs.Folding.{decTag};
-ghost use Rattle.rows.specs.Rows.{tagAt, noRow};
-ghost use Rattle.fold.specs.Kept.{marksFit, ontoRow, Stands, ChildrenFolded, Whole, RowsFolded, parentMoved, Movable, RowMoved, Remains, RowsKept};
+ghost use Rattle.meaning.specs.Folding.{decLab, decTag};
+ghost use Rattle.rows.specs.Rows.{labOf, tagAt, noRow};
+ghost use Rattle.fold.specs.Kept.{marksFit, fitsChild, belowFold, ontoRow, Stands, ChildrenFolded, Whole, RowsFolded, parentMoved, Movable, RowMoved, Remains, RowsKept};
 
 const GONE: u16 = 65534;
 
@@ -27,6 +27,9 @@ fn marks_fit(mark: &[u8], u: usize, v: usize) -> bool
     ensures { λ r. ⌜ r ≡ marksFit (getD (now (mark .entry)) u 0) (getD (now (mark .entry)) v 0) ⌝ }
 {
     let s = mark[u];
+    if s == 0 {
+        return true;
+    }
     let t = mark[v];
     if t % 2 < s % 2 {
         return false;
@@ -37,20 +40,25 @@ fn marks_fit(mark: &[u8], u: usize, v: usize) -> bool
     1 < t
 }
 
-// "u's label is a wildcard or equals v's, u's marks are among v's"
-fn fits(code: &[u32], mark: &[u8], u: usize, v: usize) -> bool
-    requires { ⌜ (u < length (now code)) × (v < length (now code)) × (u < length (now mark)) × (v < length (now mark)) ⌝ }
-    ensures { λ r. ⌜ r ≡ is (decTag (tagAt (now (code .entry)) (now (mark .entry)) u) (tagAt (now (code .entry)) (now (mark .entry)) v)) ⌝ }
+// "u's label is a wildcard or equals v's", by their codes
+fn label_fits(x: u32, y: u32) -> bool
+    ensures { λ r. ⌜ r ≡ is (decLab (labOf x) (labOf y)) ⌝ }
 {
-    if !marks_fit(mark, u, v) {
-        return false;
-    }
-    let x = code[u];
-    let y = code[v];
     if x == 0 {
         return true;
     }
     x == y
+}
+
+// "u's label is a wildcard or equals v's, u's marks are among v's": the labels first, since most pairs differ in them.
+fn fits(code: &[u32], mark: &[u8], u: usize, v: usize) -> bool
+    requires { ⌜ (u < length (now code)) × (v < length (now code)) × (u < length (now mark)) × (v < length (now mark)) ⌝ }
+    ensures { λ r. ⌜ r ≡ is (decTag (tagAt (now (code .entry)) (now (mark .entry)) u) (tagAt (now (code .entry)) (now (mark .entry)) v)) ⌝ }
+{
+    if !label_fits(code[u], code[v]) {
+        return false;
+    }
+    marks_fit(mark, u, v)
 }
 
 // The number of rows that row u and all below it take.
@@ -69,14 +77,22 @@ fn is_child(up: &[u16], p: usize, c: usize) -> bool
     wide(up[c]) == p
 }
 
-// "every child of u folds onto some child of v"
-pub fn folds_onto(code: &[u32], mark: &[u8], span: &[u16], up: &[u16], u: usize, v: usize) -> bool
-    requires { ⌜ Stands (now code) (now mark) (now span) (now up) u × Stands (now code) (now mark) (now span) (now up) v ⌝ }
-    ensures { λ r. ⌜ r ≡ ontoRow (now (code .entry)) (now (mark .entry)) (now (span .entry)) (now (up .entry)) u v ⌝ }
+// Row b is a child of row v that is still there, and row a fits it.
+fn fits_child(code: &[u32], mark: &[u8], up: &[u16], v: usize, a: usize, b: usize) -> bool
+    requires { ⌜ (a < length (now code)) × (b < length (now code)) × (a < length (now mark)) × (b < length (now mark)) × (b < length (now up)) ⌝ }
+    ensures { λ r. ⌜ r ≡ fitsChild (now (code .entry)) (now (mark .entry)) (now (up .entry)) v a b ⌝ }
 {
-    if !fits(code, mark, u, v) {
+    if !is_child(up, v, b) {
         return false;
     }
+    fits(code, mark, a, b)
+}
+
+// "every child of u folds onto some child of v". A child that does not fit costs no call, nor one that bears no child.
+fn children_fold(code: &[u32], mark: &[u8], span: &[u16], up: &[u16], u: usize, v: usize) -> bool
+    requires { ⌜ Stands (now code) (now mark) (now span) (now up) u × Stands (now code) (now mark) (now span) (now up) v ⌝ }
+    ensures { λ r. ⌜ r ≡ belowFold (now (code .entry)) (now (mark .entry)) (now (span .entry)) (now (up .entry)) u v ⌝ }
+{
     let u_end = u + span_at(span, u);
     let v_end = v + span_at(span, v);
     let mut a = u + 1;
@@ -84,8 +100,12 @@ pub fn folds_onto(code: &[u32], mark: &[u8], span: &[u16], up: &[u16], u: usize,
         if is_child(up, u, a) {
             let mut b = v + 1;
             while b < v_end {
-                if is_child(up, v, b) {
-                    if folds_onto(code, mark, span, up, a, b) {
+                if fits_child(code, mark, up, v, a, b) {
+                    if span_at(span, a) == 1 {
+                        a += 1;
+                        continue 'child;
+                    }
+                    if children_fold(code, mark, span, up, a, b) {
                         a += span_at(span, a);
                         continue 'child;
                     }
@@ -97,6 +117,17 @@ pub fn folds_onto(code: &[u32], mark: &[u8], span: &[u16], up: &[u16], u: usize,
         a += span_at(span, a);
     }
     true
+}
+
+// "u's label is a wildcard or equals v's, u's marks are among v's, and every child of u folds onto some child of v"
+pub fn folds_onto(code: &[u32], mark: &[u8], span: &[u16], up: &[u16], u: usize, v: usize) -> bool
+    requires { ⌜ Stands (now code) (now mark) (now span) (now up) u × Stands (now code) (now mark) (now span) (now up) v ⌝ }
+    ensures { λ r. ⌜ r ≡ ontoRow (now (code .entry)) (now (mark .entry)) (now (span .entry)) (now (up .entry)) u v ⌝ }
+{
+    if !fits(code, mark, u, v) {
+        return false;
+    }
+    children_fold(code, mark, span, up, u, v)
 }
 
 // Row b is a child of row p that is still there, and not row a.
