@@ -21,7 +21,7 @@ fn wide(x: u16) -> usize
     x as usize
 }
 
-// "u's marks are among v's"
+// "u's marks are among v's": most rows bear none.
 fn marks_fit(mark: &[u8], u: usize, v: usize) -> bool
     requires { ⌜ (u < length (now mark)) × (v < length (now mark)) ⌝ }
     ensures { λ r. ⌜ r ≡ marksFit (getD (now (mark .entry)) u 0) (getD (now (mark .entry)) v 0) ⌝ }
@@ -88,7 +88,7 @@ fn fits_child(code: &[u32], mark: &[u8], up: &[u16], v: usize, a: usize, b: usiz
     fits(code, mark, a, b)
 }
 
-// "every child of u folds onto some child of v". A child that does not fit costs no call, nor one that bears no child.
+// "every child of u folds onto some child of v". A child that does not fit, or that has none below it, costs no call.
 fn children_fold(code: &[u32], mark: &[u8], span: &[u16], up: &[u16], u: usize, v: usize) -> bool
     requires { ⌜ Stands (now code) (now mark) (now span) (now up) u × Stands (now code) (now mark) (now span) (now up) v ⌝ }
     ensures { λ r. ⌜ r ≡ belowFold (now (code .entry)) (now (mark .entry)) (now (span .entry)) (now (up .entry)) u v ⌝ }
