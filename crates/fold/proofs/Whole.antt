@@ -188,30 +188,6 @@ module _ {code mark span up : List ℕ} {n : ℕ} (R : Whole code mark span up n
       reduced q l m (no d) = rw (behind q (omega arith) m) (T .reduced q (omega arith) m)
 
 -- ------------------------------------------------------------------ rows in image order
--- the rows of a tree are whole
-pub rows-whole : (code mark kids span up : List ℕ) (n : ℕ) → Rows code mark kids span up n → Whole code mark span up n
-rows-whole code mark kids span up n R =
-    record {
-      few = R .few;
-      codes = R .codes;
-      marks = R .marks;
-      spans = R .spans;
-      ups = R .ups;
-      laid = R .laid;
-      hung = R .hung;
-      single = R .single;
-    }
-
--- where nothing has gone, the tree that is left is the tree
-kept-of-hung : (up : List ℕ) (p : ℕ) (F : Forest ℕ) → Hung up p F → kept up p F ≡ F
-unfolding kept
-kept-of-hung up p bare h = refl
-kept-of-hung up p (tree i k r) h = rw (eq-eqb (getD up i 0) p (h .0), kept-of-hung up i k (h .1), kept-of-hung up p r (h .2))
-
-pub kept-all : (code mark span up : List ℕ) (n : ℕ) → Whole code mark span up n → keptTree code mark span up n ≡ treeRows code mark span n
-unfolding left treeRows
-kept-all code mark span up n R = ap (mapT (tagAt code mark)) (kept-of-hung up noRow (shape span n) (R .hung))
-
 -- what folding has left, the rows that are left can be put to the front
 pub folded-remains : (code mark kids span up : List ℕ) (n : ℕ) (up′ : List ℕ) → Rows code mark kids span up n → RowsFolded code mark span up n up′
     → length up′ ≡ length up → Remains code mark span up′ n

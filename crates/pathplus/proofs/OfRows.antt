@@ -24,14 +24,6 @@ use Rattle.normal.specs.Ways.{QueryRows}
 use Rattle.word.specs.Answer.{verdict}
 use Rattle.tree.specs.Trees.{Accepted, RowsOf, MinimalRows}
 
--- a word that the check accepts has its expression
-pub word-accepted : (word : List ℕ) → answered tt ≡ verdict (readWord word) → Accepted word
-word-accepted word v = go (readWord word) refl v
-  where
-    go : (o : Outcome Expr) → readWord word ≡ o → answered tt ≡ verdict o → Accepted word
-    go (refused n p) r e = let z : _≡_ {A = ℕ} 0 1 = cc in absurd (omega arith)
-    go (answered f) r e = (f, r)
-
 pub word-refused : (word : List ℕ) (n p : ℕ) → refused n p ≡ verdict (readWord word) → readWord word ≡ refused n p
 word-refused word n p v = go (readWord word) refl v
   where

@@ -73,17 +73,6 @@ holds-opens span u e (tree i k r) h c l m = go (h .0) (ℕ-discrete c u) (decLt 
         let s = size-holds span (suc i + size k) e r (h .3) in
         record { some = o .some; inside = omega (arith, o .inside); held = o .held }
 
--- some brothers that are read from the rows, with a fuel that reaches the end, open likewise
-pub brothers-opens : (k j : ℕ) (span : List ℕ) (u e : ℕ) → Holds span u e (brothers k span u e) → u < e → e ≤ u + k → e ≤ u + getD span u 0 + j
-    → brothers k span u e ≡ tree u (below span u) (brothers j span (u + getD span u 0) e)
-brothers-opens k j span u e h l lk lj = go (brothers k span u e) h
-  where
-    go : (F : Forest ℕ) → Holds span u e F → F ≡ tree u (below span u) (brothers j span (u + getD span u 0) e)
-    go bare h′ = absurd (omega arith)
-    go (tree i m r) h′ =
-        let z = holds-first span u e i m r h′ in
-        rw (z .0, holds-is j span (u + getD span u 0) e r (z .2) lj, h′ .0)
-
 -- ------------------------------------------------------------------ row u is node u in image order
 look-left : {A : Type 0} (xs ys : List A) (i : ℕ) → i < length xs → look (xs ++ ys) i ≡ look xs i
 look-left [] ys i l = absurd (omega arith)

@@ -22,6 +22,7 @@ use Rattle.theory.proofs.Cases as Cases
 use Rattle.theory.proofs.Document as Documents
 use Rattle.theory.proofs.Same as Same
 use Rattle.theory.proofs.Least as Least
+use Rattle.theory.proofs.Records as Records
 use Rattle.theory.proofs.Factors.{normal-simple}
 use Rattle.theory.proofs.Again as Again
 use Rattle.theory.proofs.Removal as Removal
@@ -73,12 +74,20 @@ one-minimal-image = Least.one-image
 pub one-minimal-tree : (P Q : Query) → TreeQuery P → TreeQuery Q → Agree (Selects P) (Selects Q) → ordered (minimal (treeOf P)) ≡ ordered (minimal (treeOf Q))
 one-minimal-tree = Least.one-query
 
+-- an image is the image of one tree, up to the order of brothers
+pub one-tree : (f g : Forest Tag) → image f ≡ image g → ordered f ≡ ordered g
+one-tree = Records.image-back
+
 -- whichever foldable brother is taken first, the end has the same image; and folding comes to an end
 pub any-order : (f g : Forest Tag) → Sheds f g → Reduced g → (image g ≡ image (minimal f)) × (ordered g ≡ ordered (minimal f))
 any-order = Least.any-order
 
 pub folding-ends : (f : Forest Tag) → (g : Forest Tag) × Sheds f g × Reduced g
 folding-ends = Removal.sheds-to-end
+
+-- nor does it matter in which order the brothers stood
+pub any-brothers : (f : Forest Tag) → ordered (minimal (ordered f)) ≡ ordered (minimal f)
+any-brothers = Least.ordered-first
 
 -- "no Path+ expression of any length with the same meaning has fewer parent and child steps than the normal form ..
 pub fewest-steps : (e f : Expr) → Agree (pairs e) (pairs f) → steps (normalOf (plain e)) ≤ steps f

@@ -153,9 +153,6 @@ pub ordered-of-records : (f g : Forest Tag) → records f ≡ records g → orde
 ordered-of-records f g e =
     records-back (ordered f) (ordered g) (sorted-ordered f) (sorted-ordered g) (records-ordered f ∙ e ∙ sym (records-ordered g))
 
-pub ordered-twice : (f : Forest Tag) → ordered (ordered f) ≡ ordered f
-ordered-twice f = ordered-of-records (ordered f) f (records-ordered f)
-
 -- an image is the image of one tree, up to the order of brothers
 pub image-back : (f g : Forest Tag) → image f ≡ image g → ordered f ≡ ordered g
 image-back f g e =

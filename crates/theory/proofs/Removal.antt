@@ -75,11 +75,6 @@ pruned-size end = omega arith
 pruned-size (gone x m) = let e = pruned-size m in omega arith
 pruned-size (kept m n) = let e = pruned-size m in let e′ = pruned-size n in omega arith
 
--- a brother that folds onto another one may go
-pub drop-brother : (P : Tag → Forest Tag → Type 0) (g : Forest Tag) (x : Any P g)
-    → ((b : Tag) (j : Forest Tag) → P b j → Any (Onto b j) (cut P g x)) → Equal g (cut P g x)
-drop-brother P g x to = pruned-equal (cut-pruned (cut P g x) P g x to)
-
 -- ------------------------------------------------------------------ one brother after the other goes
 pub shed-pruned : (f g : Forest Tag) → Shed f g → Pruned g f g
 shed-pruned bare g s = absurd s

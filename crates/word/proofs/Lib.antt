@@ -3,7 +3,6 @@ pub mod Numbers
 pub mod Signs
 pub mod Run
 pub mod Accepted
-pub mod Limits
 pub mod Unique
 mod Outcomes
 mod Reading

@@ -2,7 +2,8 @@ use mathlib.Core.Path.{sym, ap, _∙_}
 use Rattle.meaning.specs.Image.{minimalImage}
 use Rattle.word.specs.Answer.{checkedOf}
 use Rattle.pathplus.proofs.Writing.{writes-refused}
-use Rattle.pathplus.proofs.OfRows.{word-accepted, word-refused}
+use Rattle.word.proofs.Accepted.{accepted-word}
+use Rattle.pathplus.proofs.OfRows.{word-refused}
 use borrow.Author.Needs.{needs}
 use Rattle.pathplus.proofs.minimal_image.Statement.{statement}
 use Rattle.pathplus.proofs.minimal_image.Tie as tie
@@ -25,7 +26,7 @@ enum-told c = search needs
 
 -- src/lib.rt:107:30
 write-minimal-image-requires : tie.Need-write-minimal-image-requires
-write-minimal-image-requires c κs = word-accepted _ (sym (ap checkedOf (c .before .enum-told .given .1)) ∙ c .before .before .before .check-word .ensures)
+write-minimal-image-requires c κs = accepted-word _ (sym (ap checkedOf (c .before .enum-told .given .1)) ∙ c .before .before .before .check-word .ensures)
 
 -- src/lib.rt:102:1
 returns : tie.Need-returns

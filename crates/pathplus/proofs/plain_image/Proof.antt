@@ -2,7 +2,8 @@ use mathlib.Core.Path.{sym, ap, _∙_}
 use Rattle.meaning.specs.Image.{plainImage}
 use Rattle.word.specs.Answer.{checkedOf}
 use Rattle.pathplus.proofs.Writing.{writes-refused}
-use Rattle.pathplus.proofs.OfRows.{word-accepted, word-refused}
+use Rattle.word.proofs.Accepted.{accepted-word}
+use Rattle.pathplus.proofs.OfRows.{word-refused}
 use borrow.Author.Needs.{needs}
 use Rattle.pathplus.proofs.plain_image.Statement.{statement}
 use Rattle.pathplus.proofs.plain_image.Tie as tie
@@ -25,7 +26,7 @@ enum-told c = search needs
 
 -- src/lib.rt:97:30
 write-plain-image-requires : tie.Need-write-plain-image-requires
-write-plain-image-requires c κs = word-accepted _ (sym (ap checkedOf (c .before .enum-told .given .1)) ∙ c .before .before .before .check-word .ensures)
+write-plain-image-requires c κs = accepted-word _ (sym (ap checkedOf (c .before .enum-told .given .1)) ∙ c .before .before .before .check-word .ensures)
 
 -- src/lib.rt:92:1
 returns : tie.Need-returns

@@ -1,7 +1,8 @@
 use mathlib.Core.Path.{sym, ap, _∙_}
 use Rattle.word.specs.Answer.{checkedOf}
 use Rattle.pathplus.proofs.Asking.{selects-refused}
-use Rattle.pathplus.proofs.OfRows.{word-accepted, word-refused}
+use Rattle.word.proofs.Accepted.{accepted-word}
+use Rattle.pathplus.proofs.OfRows.{word-refused}
 use borrow.Author.Needs.{needs}
 use Rattle.pathplus.proofs.selects.Statement.{statement}
 use Rattle.pathplus.proofs.selects.Tie as tie
@@ -24,7 +25,7 @@ enum-told c = search needs
 
 -- src/lib.rt:170:30
 ask-requires : tie.Need-ask-requires
-ask-requires c κs = word-accepted _ (sym (ap checkedOf (c .before .enum-told .given .1)) ∙ c .before .before .before .check-word .ensures)
+ask-requires c κs = accepted-word _ (sym (ap checkedOf (c .before .enum-told .given .1)) ∙ c .before .before .before .check-word .ensures)
 
 -- src/lib.rt:165:1
 returns : tie.Need-returns
