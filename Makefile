@@ -17,17 +17,17 @@ test:
 
 # The library beside a plain C implementation and libxml2.
 bench:
-	rt staticlib pathplus
+	tools/archive
 	bench/run
 
 # The library beside the second implementation, for as long as one likes: make compare SEED=7 SECONDS=3600
 compare:
-	rt staticlib pathplus
+	tools/archive
 	cargo run --release --quiet --manifest-path reference/compare/Cargo.toml --bin compare -- --seed $(SEED) --seconds $(SECONDS)
 
 # The archive and its header.
 install:
-	rt staticlib pathplus
+	tools/archive
 	install -d $(DESTDIR)$(PREFIX)/lib $(DESTDIR)$(PREFIX)/include
 	install -m 644 target/staticlib/libpathplus.a $(DESTDIR)$(PREFIX)/lib
 	install -m 644 include/pathplus.h $(DESTDIR)$(PREFIX)/include

@@ -4,7 +4,7 @@
  * This file is the manual of the C interface, from top to bottom: what a
  * query word is, the conventions of every call, the limits, the refusals,
  * and then the four calls. Link with target/staticlib/libpathplus.a
- * (`rt staticlib pathplus`); nothing else is needed.
+ * (`tools/archive`); nothing else is needed.
  *
  *
  * 1. WHAT A WORD IS
