@@ -16,8 +16,8 @@ use Rattle.meaning.specs.Folding.{decLab, decMark, decTag, decAny, decFolds, de
 use Rattle.meaning.specs.Number.{groups, readNumber}
 use Rattle.meaning.specs.Image.{decL, plainImage, minimalImage}
 use Rattle.meaning.specs.Normal.{normalForm}
-use Rattle.meaning.specs.Word.{Outcome, refused, answered, andThen, signOf, isStep, takes, atEnd, run, readWord}
-use Rattle.meaning.specs.Promise.{fitting, written, lengthOf, roomAfter, Writes}
+use Rattle.meaning.specs.Word.{Outcome, refused, answered, signOf, isStep, takes, atEnd, run, readWord}
+use Rattle.meaning.specs.Promise.{written, lengthOf, roomAfter, Writes}
 use Rattle.theory.proofs.Look.{never}
 
 -- "one that returns a length other than its answer's": a length that is returned is that of the bytes owed, and those stand at the front of the room

@@ -180,7 +180,7 @@ pub one-reply : (q : Question) (r r′ : Outcome Bool) (a a′ : List ℕ) → P
 one-reply = Promise.one-reply
 
 -- ------------------------------------------------------------------ "These idle versions have to be refused by the promise"
--- "one that refuses all words": no accepted word is refused in a room that is long enough
+-- "one that refuses all words": no accepted word, as P1 to P12 are, is refused in a room that is long enough
 pub refuses-words : (form : Option Query → List ℕ) (word room : List ℕ) (e : Expr) → readWord word ≡ answered e → length (form (plain e)) ≤ length room
     → (number place : ℕ) (after : List ℕ) → ¬ Writes form word room (refused number place) after
 refuses-words = Idle.refuses-words
