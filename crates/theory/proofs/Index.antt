@@ -4,9 +4,9 @@ use mathlib.Core.Path.{_≡_}
 use mathlib.Core.Logic.{_↔_}
 use mathlib.Core.Bool.{Bool, true}
 use mathlib.Core.Option.{Option, none, some}
-use mathlib.Core.List.{List}
-use Prim.Native.Nat.{ℕ, _-_, _≤_}
-use lib.ListN.{length}
+use mathlib.Core.List.{List, [], _∷_, _++_}
+use Prim.Native.Nat.{ℕ, suc, _-_, _≤_}
+use lib.ListN.{length, drop}
 use Rattle.meaning.specs.Document.{Doc, Document}
 use Rattle.meaning.specs.Expression.{Expr, pairs, steps, Simple, Agree}
 use Rattle.meaning.specs.TreeQuery.{Query, TreeQuery, Selects, SelectsO, nodes}
@@ -14,10 +14,10 @@ use Rattle.meaning.specs.Gluing.{plain}
 use Rattle.meaning.specs.Tree.{Forest, bare, tree, Tag, Takes, treeOf, plainTree, size}
 use Rattle.meaning.specs.Folding.{Reduced, Sheds, minimal}
 use Rattle.meaning.specs.Image.{image, ordered, plainImage, minimalImage, minimalTree}
-use Rattle.meaning.specs.Normal.{eitherIn, normalOf, normalForm}
-use Rattle.meaning.specs.Word.{Outcome, answered, readWord}
+use Rattle.meaning.specs.Normal.{eitherIn, normal, normalOf, normalForm}
+use Rattle.meaning.specs.Word.{Outcome, refused, answered, readWord}
 use Rattle.meaning.specs.Matching.{LaysAt}
-use Rattle.meaning.specs.Promise.{Writes, Question, Selected}
+use Rattle.meaning.specs.Promise.{written, Writes, Question, Selected}
 use Rattle.theory.proofs.Cases as Cases
 use Rattle.theory.proofs.Document as Documents
 use Rattle.theory.proofs.Same as Same
@@ -30,11 +30,16 @@ use Rattle.theory.proofs.Tables.{tableOf}
 use Rattle.theory.proofs.Bits as Bits
 use Rattle.theory.proofs.Pair as Pair
 use Rattle.theory.proofs.Promise as Promise
+use Rattle.theory.proofs.Idle as Idle
 
 -- ------------------------------------------------------------------ documents and worked cases
 -- "On every finite labelled tree": each tree, built from a label and the trees below it, has a document table with its nodes, labels and children.
 pub every-tree : (a : ℕ) (k : Forest ℕ) → (D : Doc) × Document D × Documents.Stands (tree a k bare) D
 every-tree = Documents.tree-document
+
+-- .. and each document table is the table of such a tree.
+pub every-table : (D : Doc) → Document D → (a : ℕ) × (k : Forest ℕ) × Documents.Stands (tree a k bare) D
+every-table = Documents.document-tree
 
 -- "P1 to P12 are proved as a single table under a single theorem."
 pub worked-cases : Cases.Each Cases.Right Cases.cases
@@ -45,7 +50,7 @@ worked-cases = Cases.table
 pub same-plain : (e : Expr) (D : Doc) (m n : ℕ) → pairs e D m n ↔ SelectsO (plain e) D m n
 same-plain = Same.same-plain
 
--- .. its minimal tree query ..
+-- .. its minimal tree query .. (paper, theorem 7.1 (1): reducing a tree query gives one equivalent to it)
 pub same-minimal : (e : Expr) (D : Doc) (m n : ℕ) → pairs e D m n ↔ Takes (minimalTree (plain e)) D m n
 same-minimal = Same.same-minimal
 
@@ -74,9 +79,28 @@ one-minimal-image = Least.one-image
 pub one-minimal-tree : (P Q : Query) → TreeQuery P → TreeQuery Q → Agree (Selects P) (Selects Q) → ordered (minimal (treeOf P)) ≡ ordered (minimal (treeOf Q))
 one-minimal-tree = Least.one-query
 
+-- expressions of one meaning have one minimal tree
+pub one-tree : (e f : Expr) → Agree (pairs e) (pairs f) → minimalTree (plain e) ≡ minimalTree (plain f)
+one-tree = Least.one-tree
+
+-- paper, theorem 7.1 (2): "P_red is isomorphic to any minimal T expression equivalent to P". A tree query of the same meaning with as few nodes as the
+-- minimal tree is that tree, up to the order of brothers (whichever way it was reduced: `any-order`) ..
+pub as-few-nodes : (e : Expr) (Q : Query) → TreeQuery Q → Agree (pairs e) (Selects Q) → nodes Q ≤ size (minimalTree (plain e))
+    → ordered (treeOf Q) ≡ minimalTree (plain e)
+as-few-nodes = Least.as-few-nodes
+
+pub as-few-query : (P Q : Query) → TreeQuery P → TreeQuery Q → Agree (Selects P) (Selects Q) → nodes Q ≤ size (ordered (minimal (treeOf P)))
+    → ordered (treeOf Q) ≡ ordered (minimal (treeOf P))
+as-few-query = Least.as-few-query
+
+-- .. and so is one that is "minimal if there is no equivalent tree query with fewer nodes"
+pub minimal-nodes : (e : Expr) (Q : Query) → TreeQuery Q → Agree (pairs e) (Selects Q)
+    → ((R : Query) → TreeQuery R → Agree (pairs e) (Selects R) → nodes Q ≤ nodes R) → ordered (treeOf Q) ≡ minimalTree (plain e)
+minimal-nodes = Least.minimal-nodes
+
 -- an image is the image of one tree, up to the order of brothers
-pub one-tree : (f g : Forest Tag) → image f ≡ image g → ordered f ≡ ordered g
-one-tree = Records.image-back
+pub one-tree-per-image : (f g : Forest Tag) → image f ≡ image g → ordered f ≡ ordered g
+one-tree-per-image = Records.image-back
 
 -- whichever foldable brother is taken first, the end has the same image; and folding comes to an end
 pub any-order : (f g : Forest Tag) → Sheds f g → Reduced g → (image g ≡ image (minimal f)) × (ordered g ≡ ordered (minimal f))
@@ -90,6 +114,7 @@ pub any-brothers : (f : Forest Tag) → ordered (minimal (ordered f)) ≡ ordere
 any-brothers = Least.ordered-first
 
 -- "no Path+ expression of any length with the same meaning has fewer parent and child steps than the normal form ..
+-- (paper, theorem 7.2 (1): "If P is a minimal T expression, then T-Path(P) is a minimal Path+ expression"; with `same-normal` it is corollary 7.1)
 pub fewest-steps : (e f : Expr) → Agree (pairs e) (pairs f) → steps (normalOf (plain e)) ≤ steps f
 fewest-steps = Least.fewest-steps
 
@@ -100,6 +125,23 @@ no-intersection-no-inverse e = normal-simple (minimalTree (plain e))
 -- "its steps are the minimal node count less one (none for empty)"
 pub steps-nodes : (e : Expr) → steps (normalOf (plain e)) ≡ size (minimalTree (plain e)) - 1
 steps-nodes = Least.steps-nodes
+
+-- paper, lemma 7.4: (1) a tree query built from an expression has at most as many edges as the expression has steps ..
+pub plain-edges : (e : Expr) → size (plainTree (plain e)) ≤ suc (steps e)
+plain-edges = Least.plain-size
+
+-- .. and (2) the expression written from a tree query has as many steps as that has edges
+pub query-edges : (Q : Query) → TreeQuery Q → suc (steps (normal (treeOf Q))) ≡ nodes Q
+query-edges = Least.query-steps
+
+-- paper, theorem 7.2 (2): "If E is a minimal Path+ expression, then Path-T(E) is a minimal T expression". Where an expression has as few steps as its
+-- normal form, nothing folds in its plain tree ..
+pub as-few-steps : (e : Expr) → steps e ≤ steps (normalOf (plain e)) → ordered (plainTree (plain e)) ≡ minimalTree (plain e)
+as-few-steps = Least.as-few-steps
+
+-- .. and so where "any equivalent expression has at least as many" steps
+pub minimal-steps : (e : Expr) → ((f : Expr) → Agree (pairs e) (pairs f) → steps e ≤ steps f) → ordered (plainTree (plain e)) ≡ minimalTree (plain e)
+minimal-steps = Least.minimal-steps
 
 -- ------------------------------------------------------------------ demand 2: read in again
 -- "The normal form has at most 2,048 bytes .. and it is always accepted as a word."
@@ -136,3 +178,23 @@ one-writing = Promise.one-writing
 pub one-reply : (q : Question) (r r′ : Outcome Bool) (a a′ : List ℕ) → Promise.Bytes a → Promise.Bytes a′
     → Selected q r a → Selected q r′ a′ → (r ≡ r′) × (a ≡ a′)
 one-reply = Promise.one-reply
+
+-- ------------------------------------------------------------------ "These idle versions have to be refused by the promise"
+-- "one that refuses all words": no accepted word, as P1 to P12 are, is refused in a room that is long enough
+pub refuses-words : (form : Option Query → List ℕ) (word room : List ℕ) (e : Expr) → readWord word ≡ answered e → length (form (plain e)) ≤ length room
+    → (number place : ℕ) (after : List ℕ) → ¬ Writes form word room (refused number place) after
+refuses-words = Idle.refuses-words
+
+-- "one fixed answer, such as empty": the byte 00 is no answer to P1
+pub always-empty : (room : List ℕ) (r : Outcome ℕ) → 4 ≤ length room → (¬ Writes plainImage (0x01 ∷ []) room r (0x00 ∷ drop 1 room))
+    × (¬ Writes minimalImage (0x01 ∷ []) room r (0x00 ∷ drop 1 room)) × (¬ Writes normalForm (0x01 ∷ []) room r (0x00 ∷ drop 1 room))
+always-empty = Idle.always-empty
+
+-- "one that hands the word back as normal form (demand 3, P8)"
+pub hands-back : (room after : List ℕ) → ¬ Writes normalForm (0x02 ∷ 0x0A ∷ 0x04 ∷ 0x05 ∷ 0x02 ∷ 0x05 ∷ 0x04 ∷ []) room (answered 7) after
+hands-back = Idle.hands-back
+
+-- "one that returns a length other than its answer's": the length is that of the bytes owed, and those are the front of the room
+pub own-length : (form : Option Query → List ℕ) (word room : List ℕ) (n : ℕ) (after : List ℕ) → Writes form word room (answered n) after
+    → (bytes : List ℕ) × (written form word room ≡ answered bytes) × (n ≡ length bytes) × (after ≡ bytes ++ drop n room)
+own-length = Idle.own-length

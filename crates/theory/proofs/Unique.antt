@@ -1,13 +1,13 @@
 -- ".. the paper's minimality claims must come out for it" (01, Folding; paper, section 7): two forests that are folded to the end and fold onto each other
 -- are the same up to the order of brothers; so every order of folding ends in the same tree, and none of the forests that fold to and fro with it is smaller.
 use mathlib.Core.Path.{_≡_, refl, ap}
-use mathlib.Core.Logic.{inl, inr}
+use mathlib.Core.Logic.{_⊎_, inl, inr}
 use Prim.Native.Nat.{_≤_}
 use native.Mathlib.Omega.{arith}
 use Rattle.meaning.specs.Tree.{Forest, bare, tree, Tag, Any, size}
-use Rattle.meaning.specs.Folding.{Folds, Onto, Reduced, cut, Sheds, minimal}
-use Rattle.theory.proofs.Folding.{tag-anti, any-map, folds-trans, onto-trans, Equal, equal-trans}
-use Rattle.theory.proofs.Removal.{cut-pruned, pruned-from, pruned-reduced, cut-found, sheds-equal}
+use Rattle.meaning.specs.Folding.{Folds, Onto, Reduced, cut, Shed, Sheds, minimal}
+use Rattle.theory.proofs.Folding.{tag-anti, any-map, folds-trans, onto-trans, Equal, equal-refl, equal-trans}
+use Rattle.theory.proofs.Removal.{cut-pruned, pruned-from, pruned-reduced, cut-found, shed-equal, sheds-equal, shed-less, reduced-or-sheds}
 use Rattle.theory.proofs.Minimal.{minimal-equal, minimal-reduced, minimal-size}
 
 -- the same up to the order of brothers, everywhere
@@ -98,3 +98,13 @@ sheds-to-minimal-same f g s rg = minimal-same f g rg (sheds-equal f g s)
 pub smallest : (f g : Forest Tag) → Reduced f → Folds f g → Folds g f → size f ≤ size g
 smallest f g rf x y =
     let e = same-size f (minimal g) (minimal-same g f rf (y, x)) in let l = minimal-size g in omega arith
+
+-- a forest with no more nodes than its minimal tree is that tree: could a brother go, still fewer nodes would be left
+pub as-small-same : (f : Forest Tag) → size f ≤ size (minimal f) → Same f (minimal f)
+as-small-same f le = go (reduced-or-sheds f)
+  where
+    go : Reduced f ⊎ ((g : Forest Tag) × Shed f g) → Same f (minimal f)
+    go (inl rf) = minimal-same f f rf (equal-refl f)
+    go (inr (g, s)) =
+        let e = equal-trans g f (minimal f) ((shed-equal f g s) .1, (shed-equal f g s) .0) (minimal-equal f) in
+        let x = smallest (minimal f) g (minimal-reduced f) (e .1) (e .0) in let l = shed-less f g s in absurd (omega arith)
