@@ -15,8 +15,8 @@ use Rattle.meaning.specs.Tree.{Forest, bare, tree}
 use Rattle.meaning.specs.Folding.{LabLe, MarkLe, TagLe, Folds, Onto, decLab, decMark, decTag, decFolds, decOnto}
 use Rattle.rows.specs.Rows.{labOf, tagAt, below, Holds}
 use Rattle.rows.proofs.Rows.{Opens, holds-first}
-use Rattle.fold.specs.Kept.{leftBelow, marksFit, fitsChild, belowFold, OntoRow, ontoRow, height, Stands}
-use Rattle.fold.proofs.Brothers.{Top, Over, Lands, over-start, over-child, over-step, over-next, over-all, any-of-row, row-of-any, folds-of-rows, row-of-folds}
+use Rattle.fold.specs.Kept.{leftBelow, marksFit, fitsChild, belowFold, OntoRow, ontoRow, height, Stands, Top}
+use Rattle.fold.proofs.Brothers.{Over, Lands, over-start, over-child, over-step, over-next, over-all, any-of-row, row-of-any, folds-of-rows, row-of-folds}
 
 -- ------------------------------------------------------------------ decisions as truth values
 is-yes : {P : Type 0} (d : Dec P) → P → true ≡ is d

@@ -15,8 +15,8 @@ use Rattle.theory.proofs.Unique.{minimal-same}
 use Rattle.theory.proofs.Records.{same-ordered}
 use Rattle.rows.specs.Rows.{tagAt, below, shape, mapT, treeRows, Holds, Hung, width, noRow, Rows}
 use Rattle.rows.proofs.Rows.{Opens, holds-first, row-opens}
-use Rattle.fold.specs.Kept.{goneRow, kept, left, leftBelow, keptTree, Stands, Goes, NoneFold, ChildrenFolded, Whole, RowsFolded, Remains}
-use Rattle.fold.proofs.Brothers.{Top, top-range, left-bare, left-here, left-away, left-ind}
+use Rattle.fold.specs.Kept.{goneRow, kept, left, leftBelow, keptTree, Stands, Top, Goes, NoneFold, ChildrenFolded, Whole, RowsFolded, Remains}
+use Rattle.fold.proofs.Brothers.{top-range, left-bare, left-here, left-away, left-ind}
 use Rattle.fold.proofs.Children.{below-same}
 
 -- ------------------------------------------------------------------ parents

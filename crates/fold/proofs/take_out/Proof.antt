@@ -1,0 +1,27 @@
+-- The row that goes is the one that was listed at i when the call began.
+use mathlib.Core.Path.{refl}
+use borrow.Author.Needs.{needs}
+use Rattle.fold.proofs.take_out.Statement.{statement}
+use Rattle.fold.proofs.take_out.Tie as tie
+use Rattle.fold.proofs.take_out.Reads as reads
+use Rattle.fold.proofs.take_out.Lts as lts
+use Rattle.fold.proofs.child_at.Reads as child-at-reads
+
+-- src/lib.rt:189:1
+returns : tie.Need-returns
+returns c = record { ups = rw (c .before .child-at .ensures); list = refl }
+
+pub take-out-spec : {M : Type 1} → statement M
+take-out-spec =
+    tie.close
+    (tie.spec
+    (λ c κs. search needs)
+    (λ c. search needs)
+    (λ c. search needs)
+    (λ c. search needs)
+    (λ c. search needs)
+    (λ c. search needs)
+    (λ c. search needs)
+    (λ c. search needs)
+    (λ c. search needs)
+    returns)
