@@ -14,10 +14,10 @@ use Rattle.theory.proofs.Folding.{Equal, equal-refl, equal-trans}
 use Rattle.theory.proofs.Removal.{Pruned, end, gone, kept, pruned-refl, pruned-equal}
 use Rattle.rows.specs.Rows.{tagAt, below, Holds}
 use Rattle.rows.proofs.Rows.{size-holds, Opens}
-use Rattle.fold.specs.Kept.{goneRow, left, leftBelow, OntoRow, Stands, Top, Listed, Foldable, Searchable, FirstFoldable, TakenOut, Goes, Only, ChildrenFolded}
+use Rattle.fold.specs.Kept.{goneRow, left, leftBelow, OntoRow, Stands, Top, Child, Listed, Foldable, Searchable, FirstFoldable, TakenOut, Goes, Only, ChildrenFolded}
 use Rattle.fold.proofs.Brothers.{top-range, top-opens, left-bare, left-here, left-away, left-ind, any-of-row, apart-of-rows}
 use Rattle.fold.proofs.Test.{stands-child}
-use Rattle.fold.proofs.Listing.{lists-less, moved}
+use Rattle.fold.proofs.Listing.{Whence, stood, lists-less}
 
 -- ------------------------------------------------------------------ below a child nothing changes
 module _ (code mark span : List ℕ) {p : ℕ} {up up′ : List ℕ} (only : Only span p up up′) where
@@ -53,9 +53,9 @@ only-trans span p f g h x y j = go (x j) (y j)
     go (inr w) (inl b) = inr (record { lower = w .lower; inside = w .inside; child = w .child; away = b ∙ w .away })
     go (inr w) (inr v) = inr (record { lower = w .lower; inside = w .inside; child = w .child; away = v .away })
 
-module _ (code mark span up : List ℕ) (p a : ℕ) (S : Stands code mark span up p) (t : Top a (below span p)) (c : getD up a 0 ≡ p) where
+module _ (code mark span up : List ℕ) (p a : ℕ) (S : Stands code mark span up p) (C : Child span up p a) where
   low : (suc p ≤ a) × (a < p + getD span p 0)
-  low = top-range span (suc p) (p + getD span p 0) (below span p) (S .held) a t
+  low = top-range span (suc p) (p + getD span p 0) (below span p) (S .held) a (C .top)
 
   at-a : getD (set up a goneRow) a 0 ≡ goneRow
   at-a = getD-set-same up a goneRow 0 (omega (arith, low, S .ups))
@@ -64,7 +64,7 @@ module _ (code mark span up : List ℕ) (p a : ℕ) (S : Stands code mark span u
   goes-only j = go (ℕ-discrete j a)
     where
       go : Dec (j ≡ a) → (getD (set up a goneRow) j 0 ≡ getD up j 0) ⊎ Goes span up (set up a goneRow) p j
-      go (yes e) = rw e (inr (record { lower = low .0; inside = low .1; child = c; away = at-a }))
+      go (yes e) = rw e (inr (record { lower = low .0; inside = low .1; child = C .there; away = at-a }))
       go (no n) = inl (getD-set-other up a j goneRow 0 n)
 
   -- a row that is there afterwards is another one, and was there
@@ -104,14 +104,14 @@ module _ (code mark span up : List ℕ) (p a : ℕ) (S : Stands code mark span u
       away i r m d = rw (left-away code mark (set up a goneRow) p i (below span i) r (λ z. d (was i z .1))) m
 
   -- a folds onto another child b: with a or without it the children fold onto each other
-  goes-equal : (b : ℕ) → Top b (below span p) → getD up b 0 ≡ p → ¬ (a ≡ b) → OntoRow code mark span up a b
+  goes-equal : (b : ℕ) → Child span up p b → ¬ (a ≡ b) → OntoRow code mark span up a b
       → Equal (leftBelow code mark span up p) (leftBelow code mark span (set up a goneRow) p)
-  goes-equal b s d n f =
-      let e = getD-set-other up a b goneRow 0 (λ z. n (sym z)) ∙ d in
+  goes-equal b D n f =
+      let e = getD-set-other up a b goneRow 0 (λ z. n (sym z)) ∙ D .there in
       pruned-equal
       (goes-pruned (leftBelow code mark span (set up a goneRow) p)
-      (any-of-row code mark span (set up a goneRow) p (Onto (tagAt code mark a) (leftBelow code mark span up a)) (suc p) (p + getD span p 0) (below span p) (S .held)
-      b s e (rw (same-top b s) f)))
+      (any-of-row code mark span (set up a goneRow) p (Onto (tagAt code mark a) (leftBelow code mark span up a)) (suc p) (p + getD span p 0) (below span p)
+      (S .held) b (D .top) e (rw (same-top b (D .top)) f)))
 
 -- ------------------------------------------------------------------ the search
 -- some children of p have gone, each folding onto one that stayed
@@ -129,8 +129,8 @@ searched-stands S W =
     record { some = S .some; codes = S .codes; marks = S .marks; spans = S .spans; ups = omega (arith, S .ups, W .long); few = S .few; held = S .held }
 
 -- the children that are left are listed
-module _ {code mark span up : List ℕ} {p : ℕ} {up′ : List ℕ} (S : Stands code mark span up p) (W : Searched code mark span up p up′) {child : List ℕ} {k : ℕ}
-    (L : Listed span up′ p child k) where
+module _ {code mark span up : List ℕ} {p : ℕ} {up′ : List ℕ} (S : Stands code mark span up p) (W : Searched code mark span up p up′)
+    {child : List ℕ} {k : ℕ} (L : Listed span up′ p child k) where
   T : Stands code mark span up′ p
   T = searched-stands S W
 
@@ -150,41 +150,54 @@ module _ {code mark span up : List ℕ} {p : ℕ} {up′ : List ℕ} (S : Stands
       record {
         to = W .equal .0;
         from = W .equal .1;
-        apart = apart-of-rows code mark span up′ p (suc p) (p + getD span p 0) (below span p) (S .held) (λ x y s t d f n o. apart x y n o (L .all x (record { top = s; there = d })) (L .all y (record { top = t; there = f })));
+        apart =
+            apart-of-rows code mark span up′ p (suc p) (p + getD span p 0) (below span p) (S .held)
+            (λ x y s t d f n o. apart x y n o (L .all x (record { top = s; there = d })) (L .all y (record { top = t; there = f })));
         only = W .only;
       }
     where
-      apart : (x y : ℕ) → ¬ (x ≡ y) → OntoRow code mark span up′ x y → (i : ℕ) × (i < k) × (getD child i 0 ≡ x) → (j : ℕ) × (j < k) × (getD child j 0 ≡ y) → ⊥
+      apart : (x y : ℕ) → ¬ (x ≡ y) → OntoRow code mark span up′ x y
+          → (i : ℕ) × (i < k) × (getD child i 0 ≡ x) → (j : ℕ) × (j < k) × (getD child j 0 ≡ y) → ⊥
       apart x y n o (i, a, b) (j, c, d) =
           F .before i (omega arith) (omega arith) (j, c, λ e. n (sym b ∙ ap (λ h. getD child h 0) e ∙ d), rw (b, d) o)
 
+  -- where there is one child or none, there is no pair
+  pub searched-few : k < 2 → ChildrenFolded code mark span up p up′
+  searched-few l =
+      searched-all {i = k}
+      (record { begun = omega arith; until = omega arith; before = λ i a b f. f .2 (omega (arith, f .1)); here = λ n. absurd (omega arith) }) (omega arith)
+
   -- the i-th folds onto another one and is taken out; m others are left
-  module _ {i m : ℕ} (F : FirstFoldable code mark span up′ child 0 k i) (q : k ≡ m + 1) (l : i < k) {up″ child″ : List ℕ} (X : TakenOut up′ child i m up″ child″) where
+  module _ {i m : ℕ} (F : FirstFoldable code mark span up′ child 0 k i) (q : k ≡ m + 1) (l : i < k)
+      {up″ child″ : List ℕ} (X : TakenOut up′ child i m up″ child″) where
     pub goes : Searched code mark span up p up″ × Listed span up″ p child″ m
     goes = rw (X .ups, X .list) (
       record {
         long = length-set up′ _ goneRow ∙ W .long;
-        only = only-trans span p up up′ _ (W .only) (goes-only code mark span up′ p _ T (L .each i l .top) (L .each i l .there));
-        equal = equal-trans (leftBelow code mark span up p) (leftBelow code mark span up′ p) (leftBelow code mark span _ p) (W .equal) (equal (F .here l));
+        only = only-trans span p up up′ _ (W .only) (goes-only code mark span up′ p _ T (L .each i l));
+        equal =
+            equal-trans (leftBelow code mark span up p) (leftBelow code mark span up′ p) (leftBelow code mark span _ p) (W .equal) (equal (F .here l));
       },
       lists-less q i (omega arith) L
-      (λ x c n. record { top = c .top; there = getD-set-other up′ _ x goneRow 0 n ∙ c .there })
-      (λ x c. let w = was code mark span up′ p _ T (L .each i l .top) (L .each i l .there) x (c .there) in (record { top = c .top; there = w .1 }, w .0)),
+          (λ x c n. record { top = c .top; there = getD-set-other up′ _ x goneRow 0 n ∙ c .there })
+          (λ x c. let w = was code mark span up′ p _ T (L .each i l) x (c .there) in (record { top = c .top; there = w .1 }, w .0)),
     )
       where
-        equal : Foldable code mark span up′ child k i → Equal (leftBelow code mark span up′ p) (leftBelow code mark span (set up′ (getD child i 0) goneRow) p)
-        equal (j, a, n, o) =
-            goes-equal code mark span up′ p _ T (L .each i l .top) (L .each i l .there) _ (L .each j a .top) (L .each j a .there) (λ e. n (L .once i j l a e)) o
+        equal : Foldable code mark span up′ child k i
+            → Equal (leftBelow code mark span up′ p) (leftBelow code mark span (set up′ (getD child i 0) goneRow) p)
+        equal (j, a, n, o) = goes-equal code mark span up′ p _ T (L .each i l) _ (L .each j a) (λ e. n (L .once i j l a e)) o
 
     -- what folds onto another one now did so before
-    folded : (j : ℕ) → j < i → Foldable code mark span (set up′ (getD child i 0) goneRow) (set child i (getD child m 0)) m j → Foldable code mark span up′ child k j
+    folded : (j : ℕ) → j < i → Foldable code mark span (set up′ (getD child i 0) goneRow) (set child i (getD child m 0)) m j
+        → Foldable code mark span up′ child k j
     folded j b (h, a, n, o) =
-        let w = moved child i m (omega arith) (omega (arith, L .room)) h a in
-        let c : w .was < k = omega (arith, w .inside) in
-        let same = same-top code mark span up′ p _ T (L .each i l .top) (L .each i l .there) in
-        (w .was, c, other (w .which), rw (getD-set-other child i j (getD child m 0) 0 (λ e. omega arith), w .same, same _ (L .each j (omega arith) .top), same _ (L .each (w .was) c .top)) at o)
+        let w = stood child i m (omega arith) (omega (arith, L .room)) h a in
+        let c : w .place < k = omega (arith, w .inside) in
+        let same = same-top code mark span up′ p _ T (L .each i l) in
+        let e = getD-set-other child i j (getD child m 0) 0 (λ z. omega arith) in
+        (w .place, c, other (w .whence), rw (e, w .same, same _ (L .each j (omega arith) .top), same _ (L .each (w .place) c .top)) at o)
       where
-        other : {x : ℕ} → ((x ≡ h) × (¬ (h ≡ i))) ⊎ ((x ≡ m) × (h ≡ i)) → ¬ (j ≡ x)
+        other : {x : ℕ} → Whence i m h x → ¬ (j ≡ x)
         other (inl (e, d)) z = n (z ∙ e)
         other (inr (e, d)) z = omega arith
 

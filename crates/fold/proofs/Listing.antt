@@ -9,7 +9,7 @@ use native.Mathlib.Decide.{ℕ-discrete, decLt}
 use lib.ListN.{length, getD, set, length-set}
 use lib.Seq.{getD-set-same, getD-set-other}
 use Rattle.rows.specs.Rows.{below, Holds}
-use Rattle.fold.specs.Kept.{Top, Child, Lists, Listed}
+use Rattle.fold.specs.Kept.{Child, Lists, Listed}
 use Rattle.fold.proofs.Brothers.{top-range, Over, over-child, over-step, over-with, over-split, over-all}
 
 -- ------------------------------------------------------------------ lists
@@ -49,53 +49,66 @@ lists-more {P} {Q} {child} {k} c L l n here to from =
     once i j (no m) (no o) a b e = omega arith
 
 -- ------------------------------------------------------------------ the last takes the i-th place
--- what stands there at place j stood at place `was` before, which is j or the last, m
-pub record Moved (child : List ℕ) (i m j : ℕ) : Type 0 where
-  pub was : ℕ
-  pub inside : was < m + 1
-  pub other : ¬ (was ≡ i)
-  pub which : ((was ≡ j) × (¬ (j ≡ i))) ⊎ ((was ≡ m) × (j ≡ i))
-  pub same : getD (set child i (getD child m 0)) j 0 ≡ getD child was 0
+-- what stands at place j then stood at place b before, which is j or the last, m
+abbrev pub Whence : ℕ → ℕ → ℕ → ℕ → Type 0
+Whence i m j b = ((b ≡ j) × (¬ (j ≡ i))) ⊎ ((b ≡ m) × (j ≡ i))
 
-pub moved : (child : List ℕ) (i m : ℕ) → i ≤ m → m < length child → (j : ℕ) → j < m → Moved child i m j
-moved child i m l n j o = go (ℕ-discrete j i)
+pub record Stood (child : List ℕ) (i m j : ℕ) : Type 0 where
+  pub place : ℕ
+  pub inside : place < m + 1
+  pub other : ¬ (place ≡ i)
+  pub whence : Whence i m j place
+  pub same : getD (set child i (getD child m 0)) j 0 ≡ getD child place 0
+
+pub stood : (child : List ℕ) (i m : ℕ) → i ≤ m → m < length child → (j : ℕ) → j < m → Stood child i m j
+stood child i m l n j o = go (ℕ-discrete j i)
   where
-    go : Dec (j ≡ i) → Moved child i m j
+    go : Dec (j ≡ i) → Stood child i m j
     go (yes e) = record {
-      was = m;
+      place = m;
       inside = omega arith;
       other = λ z. omega arith;
-      which = inr (omega arith, e);
+      whence = inr (omega arith, e);
       same = rw e (getD-set-same child i (getD child m 0) 0 (omega arith));
     }
-    go (no d) = record { was = j; inside = omega arith; other = d; which = inl (omega arith, d); same = getD-set-other child i j (getD child m 0) 0 d }
+    go (no d) = record { place = j; inside = omega arith; other = d; whence = inl (omega arith, d); same = getD-set-other child i j (getD child m 0) 0 d }
 
+-- the i-th of k rows is taken out, and m are left
 pub lists-less : {P Q : ℕ → Type 0} {child : List ℕ} {k m : ℕ} → k ≡ m + 1 → (i : ℕ) → i ≤ m → Lists P child k
-    → ((x : ℕ) → P x → ¬ (x ≡ getD child i 0) → Q x) → ((x : ℕ) → Q x → P x × (¬ (x ≡ getD child i 0))) → Lists Q (set child i (getD child m 0)) m
+    → ((x : ℕ) → P x → ¬ (x ≡ getD child i 0) → Q x) → ((x : ℕ) → Q x → P x × (¬ (x ≡ getD child i 0)))
+    → Lists Q (set child i (getD child m 0)) m
 lists-less {P} {Q} {child} {k} {m} q i l L to from =
     record {
       room = rw length-set (omega (arith, L .room));
       each = λ j o. each j (at j o);
-      all = λ x z. let y = from x z in let w = L .all x (y .0) in all x (w .0) (w .1) (w .2) (λ e. y .1 (sym (w .2) ∙ ap (λ n. getD child n 0) e)) (ℕ-discrete (w .0) m);
-      once = λ j h o r e. once j h o r (at j o) (at h r) e;
+      all = λ x z. all x (from x z);
+      once = λ j h o r e. once j h (at j o) (at h r) o r e;
     }
   where
-    at : (j : ℕ) → j < m → Moved child i m j
-    at = moved child i m l (omega (arith, L .room))
+    at : (j : ℕ) → j < m → Stood child i m j
+    at = stood child i m l (omega (arith, L .room))
 
-    each : (j : ℕ) → Moved child i m j → Q (getD (set child i (getD child m 0)) j 0)
+    each : (j : ℕ) → Stood child i m j → Q (getD (set child i (getD child m 0)) j 0)
     each j w =
-        rw (w .same) (to _ (L .each (w .was) (omega (arith, w .inside))) (λ e. w .other (L .once (w .was) i (omega (arith, w .inside)) (omega arith) e)))
+        let a : w .place < k = omega (arith, w .inside) in
+        rw (w .same) (to _ (L .each (w .place) a) (λ e. w .other (L .once (w .place) i a (omega arith) e)))
 
-    all : (x y : ℕ) → y < k → getD child y 0 ≡ x → ¬ (y ≡ i) → Dec (y ≡ m) → (j : ℕ) × (j < m) × (getD (set child i (getD child m 0)) j 0 ≡ x)
-    all x y a b n (yes e) = (i, omega arith, getD-set-same child i (getD child m 0) 0 (omega (arith, L .room)) ∙ (rw e at b))
-    all x y a b n (no d) = (y, omega arith, getD-set-other child i y (getD child m 0) 0 n ∙ b)
-
-    once : (j h : ℕ) → j < m → h < m → (v : Moved child i m j) (w : Moved child i m h)
-        → getD (set child i (getD child m 0)) j 0 ≡ getD (set child i (getD child m 0)) h 0 → j ≡ h
-    once j h a b v w e = go (v .which) (w .which) (L .once (v .was) (w .was) (omega (arith, v .inside)) (omega (arith, w .inside)) (sym (v .same) ∙ e ∙ w .same))
+    all : (x : ℕ) → P x × (¬ (x ≡ getD child i 0)) → (j : ℕ) × (j < m) × (getD (set child i (getD child m 0)) j 0 ≡ x)
+    all x (z, n) = go (L .all x z)
       where
-        go : ((v .was ≡ j) × (¬ (j ≡ i))) ⊎ ((v .was ≡ m) × (j ≡ i)) → ((w .was ≡ h) × (¬ (h ≡ i))) ⊎ ((w .was ≡ m) × (h ≡ i)) → v .was ≡ w .was → j ≡ h
+        at-m : (y : ℕ) → y < k → getD child y 0 ≡ x → ¬ (y ≡ i) → Dec (y ≡ m) → (j : ℕ) × (j < m) × (getD (set child i (getD child m 0)) j 0 ≡ x)
+        at-m y a b d (yes e) = (i, omega arith, getD-set-same child i (getD child m 0) 0 (omega (arith, L .room)) ∙ (rw e at b))
+        at-m y a b d (no e) = (y, omega arith, getD-set-other child i y (getD child m 0) 0 d ∙ b)
+
+        go : (y : ℕ) × (y < k) × (getD child y 0 ≡ x) → (j : ℕ) × (j < m) × (getD (set child i (getD child m 0)) j 0 ≡ x)
+        go (y, a, b) = at-m y a b (λ e. n (sym b ∙ ap (λ h. getD child h 0) e)) (ℕ-discrete y m)
+
+    once : (j h : ℕ) (v : Stood child i m j) (w : Stood child i m h) → j < m → h < m
+        → getD (set child i (getD child m 0)) j 0 ≡ getD (set child i (getD child m 0)) h 0 → j ≡ h
+    once j h v w a b e =
+        go (v .whence) (w .whence) (L .once (v .place) (w .place) (omega (arith, v .inside)) (omega (arith, w .inside)) (sym (v .same) ∙ e ∙ w .same))
+      where
+        go : Whence i m j (v .place) → Whence i m h (w .place) → v .place ≡ w .place → j ≡ h
         go (inl c) (inl d) z = sym (c .0) ∙ z ∙ d .0
         go (inl c) (inr d) z = absurd (omega arith)
         go (inr c) (inl d) z = absurd (omega arith)
@@ -124,8 +137,8 @@ module _ {span up child : List ℕ} {p c e k : ℕ} {P : ℕ → Type 0} (O : Ov
     -- row c is there
     pub list-child : getD up c 0 ≡ p → k < length child → Lists (Before span up p (c + s)) (set child k c) (k + 1)
     list-child d r =
-        lists-more c L r (λ b. omega (arith, b .1)) (record { top = over-child O l .0; there = d }, omega (arith, over-step O l q)) (λ x b. (b .0, omega (arith, b .1)))
-        (λ x b. go x (b .0) (over-split O l q x (b .0 .top) (b .1)))
+        lists-more c L r (λ b. omega (arith, b .1)) (record { top = over-child O l .0; there = d }, omega (arith, over-step O l q))
+        (λ x b. (b .0, omega (arith, b .1))) (λ x b. go x (b .0) (over-split O l q x (b .0 .top) (b .1)))
       where
         go : (x : ℕ) → Child span up p x → (x < c) ⊎ (x ≡ c) → Before span up p c x ⊎ (x ≡ c)
         go x t (inl m) = inl (t, m)

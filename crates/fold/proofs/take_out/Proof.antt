@@ -3,11 +3,7 @@ use mathlib.Core.Path.{refl}
 use borrow.Author.Needs.{needs}
 use Rattle.fold.proofs.take_out.Statement.{statement}
 use Rattle.fold.proofs.take_out.Tie as tie
-use Rattle.fold.proofs.take_out.Reads as reads
-use Rattle.fold.proofs.take_out.Lts as lts
-use Rattle.fold.proofs.child_at.Reads as child-at-reads
 
--- src/lib.rt:189:1
 returns : tie.Need-returns
 returns c = record { ups = rw (c .before .child-at .ensures); list = refl }
 
