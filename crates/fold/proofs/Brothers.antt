@@ -13,12 +13,7 @@ use Rattle.meaning.specs.Tree.{Forest, bare, tree, Tag, Any}
 use Rattle.meaning.specs.Folding.{Folds, Onto}
 use Rattle.rows.specs.Rows.{tagAt, below, mapT, Holds}
 use Rattle.rows.proofs.Rows.{size-holds, Opens, holds-first, holds-opens}
-use Rattle.fold.specs.Kept.{kept, left, leftBelow, OntoRow, NoneFold}
-
--- row j is one of the brothers
-abbrev pub Top : ℕ → Forest ℕ → Type 0
-Top j bare = ⊥
-Top j (tree i k r) = (j ≡ i) ⊎ Top j r
+use Rattle.fold.specs.Kept.{kept, left, leftBelow, OntoRow, Top, NoneFold}
 
 pub top-range : (span : List ℕ) (u e : ℕ) (F : Forest ℕ) → Holds span u e F → (j : ℕ) → Top j F → (u ≤ j) × (j < e)
 top-range span u e bare h j t = absurd t
@@ -100,9 +95,14 @@ module _ {span : List ℕ} {p : ℕ} {P : ℕ → Type 0} {a e : ℕ} (O : Over 
       go (no n) = omega arith
       go (yes n) = let z = top-range span a e (O .rest) (O .held) x (O .later x t n) in omega arith
 
-  pub over-map : {Q : ℕ → Type 0} → ((x : ℕ) → Top x (below span p) → P x → Q x) → Over span p Q a e
-  over-map f =
-      record { ends = O .ends; rest = O .rest; held = O .held; inside = O .inside; later = O .later; shown = λ x t l. f x t (O .shown x t l) }
+  -- the same loop, with something else said of each child before row a
+  pub over-with : {Q : ℕ → Type 0} → ((x : ℕ) → Top x (below span p) → x < a → Q x) → Over span p Q a e
+  over-with f = record { ends = O .ends; rest = O .rest; held = O .held; inside = O .inside; later = O .later; shown = f }
+
+-- of the children before the next one, row a is the last
+pub over-split : {span : List ℕ} {p : ℕ} {P : ℕ → Type 0} {a e : ℕ} → Over span p P a e → a < e → {s : ℕ} → s ≡ getD span a 0
+    → (x : ℕ) → Top x (below span p) → x < a + s → (x < a) ⊎ (x ≡ a)
+over-split {a = a} O l q = over-next (over-with O {Q = λ x. (x < a) ⊎ (x ≡ a)} (λ x t m. inl m)) l q (inr refl) .shown
 
 -- ------------------------------------------------------------------ the rows that are still there
 pub kept-bare : (up : List ℕ) (p : ℕ) → kept up p bare ≡ bare

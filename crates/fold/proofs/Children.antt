@@ -1,25 +1,23 @@
 -- "Of two different brothers where one folds onto the other, the folding one goes, with all below it" (01, Folding), among the children of one row.
 -- When a child goes, what is left below the other children does not change, so what did not fold before does not fold after, and the search goes on.
-use mathlib.Core.Path.{_≡_, refl, sym, _∙_}
+use mathlib.Core.Path.{_≡_, refl, sym, ap, _∙_}
 use mathlib.Core.Logic.{_⊎_, inl, inr}
-use mathlib.Core.Bool.{Bool, true, false, not, _&&_}
 use mathlib.Core.List.{List}
 use Prim.Native.Nat.{ℕ, suc, _+_, _≤_, _<_}
 use native.Mathlib.Omega.{arith}
-use native.Mathlib.Decide.{ℕ-discrete}
+use native.Mathlib.Decide.{ℕ-discrete, decLt}
 use lib.ListN.{length, getD, set, length-set}
 use lib.Seq.{getD-set-same, getD-set-other}
-use lib.Dec.{eqb}
-use borrow.Author.Tests.{eq-eqb, ne-eqb, eqb-true}
 use Rattle.meaning.specs.Tree.{Forest, bare, tree, Tag, Any, size}
 use Rattle.meaning.specs.Folding.{Onto}
 use Rattle.theory.proofs.Folding.{Equal, equal-refl, equal-trans}
 use Rattle.theory.proofs.Removal.{Pruned, end, gone, kept, pruned-refl, pruned-equal}
 use Rattle.rows.specs.Rows.{tagAt, below, Holds}
 use Rattle.rows.proofs.Rows.{size-holds, Opens}
-use Rattle.fold.specs.Kept.{goneRow, left, leftBelow, OntoRow, ontoRow, Stands, Goes, Only, ChildrenFolded}
-use Rattle.fold.proofs.Brothers.{Top, top-range, top-opens, Over, over-child, over-step, over-next, over-all, over-map, left-bare, left-here, left-away, left-ind, any-of-row, apart-of-rows}
-use Rattle.fold.proofs.Test.{stands-child, true-onto, false-onto}
+use Rattle.fold.specs.Kept.{goneRow, left, leftBelow, OntoRow, Stands, Top, Child, Listed, Foldable, Searchable, FirstFoldable, TakenOut, Goes, Only, ChildrenFolded}
+use Rattle.fold.proofs.Brothers.{top-range, top-opens, left-bare, left-here, left-away, left-ind, any-of-row, apart-of-rows}
+use Rattle.fold.proofs.Test.{stands-child}
+use Rattle.fold.proofs.Listing.{Whence, stood, lists-less}
 
 -- ------------------------------------------------------------------ below a child nothing changes
 module _ (code mark span : List ℕ) {p : ℕ} {up up′ : List ℕ} (only : Only span p up up′) where
@@ -46,11 +44,6 @@ module _ (code mark span : List ℕ) {p : ℕ} {up up′ : List ℕ} (only : Onl
   child-same S x l o = below-same x l (omega (arith, o .inside, S .few)) (o .some) (o .held)
 
 -- ------------------------------------------------------------------ one child goes
--- row x, if it is still there, folds onto no other child of p
-abbrev pub Alone : List ℕ → List ℕ → List ℕ → List ℕ → ℕ → ℕ → Type 0
-Alone code mark span up p x =
-    getD up x 0 ≡ p → (y : ℕ) → Top y (below span p) → ¬ (x ≡ y) → getD up y 0 ≡ p → ¬ OntoRow code mark span up x y
-
 only-trans : (span : List ℕ) (p : ℕ) (f g h : List ℕ) → Only span p f g → Only span p g h → Only span p f h
 only-trans span p f g h x y j = go (x j) (y j)
   where
@@ -60,9 +53,9 @@ only-trans span p f g h x y j = go (x j) (y j)
     go (inr w) (inl b) = inr (record { lower = w .lower; inside = w .inside; child = w .child; away = b ∙ w .away })
     go (inr w) (inr v) = inr (record { lower = w .lower; inside = w .inside; child = w .child; away = v .away })
 
-module _ (code mark span up : List ℕ) (p a : ℕ) (S : Stands code mark span up p) (t : Top a (below span p)) (c : getD up a 0 ≡ p) where
+module _ (code mark span up : List ℕ) (p a : ℕ) (S : Stands code mark span up p) (C : Child span up p a) where
   low : (suc p ≤ a) × (a < p + getD span p 0)
-  low = top-range span (suc p) (p + getD span p 0) (below span p) (S .held) a t
+  low = top-range span (suc p) (p + getD span p 0) (below span p) (S .held) a (C .top)
 
   at-a : getD (set up a goneRow) a 0 ≡ goneRow
   at-a = getD-set-same up a goneRow 0 (omega (arith, low, S .ups))
@@ -71,7 +64,7 @@ module _ (code mark span up : List ℕ) (p a : ℕ) (S : Stands code mark span u
   goes-only j = go (ℕ-discrete j a)
     where
       go : Dec (j ≡ a) → (getD (set up a goneRow) j 0 ≡ getD up j 0) ⊎ Goes span up (set up a goneRow) p j
-      go (yes e) = rw e (inr (record { lower = low .0; inside = low .1; child = c; away = at-a }))
+      go (yes e) = rw e (inr (record { lower = low .0; inside = low .1; child = C .there; away = at-a }))
       go (no n) = inl (getD-set-other up a j goneRow 0 n)
 
   -- a row that is there afterwards is another one, and was there
@@ -111,24 +104,16 @@ module _ (code mark span up : List ℕ) (p a : ℕ) (S : Stands code mark span u
       away i r m d = rw (left-away code mark (set up a goneRow) p i (below span i) r (λ z. d (was i z .1))) m
 
   -- a folds onto another child b: with a or without it the children fold onto each other
-  goes-equal : (b : ℕ) → Top b (below span p) → getD up b 0 ≡ p → ¬ (a ≡ b) → OntoRow code mark span up a b
+  goes-equal : (b : ℕ) → Child span up p b → ¬ (a ≡ b) → OntoRow code mark span up a b
       → Equal (leftBelow code mark span up p) (leftBelow code mark span (set up a goneRow) p)
-  goes-equal b s d n f =
-      let e = getD-set-other up a b goneRow 0 (λ z. n (sym z)) ∙ d in
+  goes-equal b D n f =
+      let e = getD-set-other up a b goneRow 0 (λ z. n (sym z)) ∙ D .there in
       pruned-equal
       (goes-pruned (leftBelow code mark span (set up a goneRow) p)
-      (any-of-row code mark span (set up a goneRow) p (Onto (tagAt code mark a) (leftBelow code mark span up a)) (suc p) (p + getD span p 0) (below span p) (S .held)
-      b s e (rw (same-top b s) f)))
-
-  -- what did not fold onto another child does not fold afterwards
-  goes-alone : (x : ℕ) → Top x (below span p) → Alone code mark span up p x → Alone code mark span (set up a goneRow) p x
-  goes-alone x s f c′ y s′ n d o = f (was x c′ .1) y s′ n (was y d .1) (rw (same-top x s, same-top y s′) at o)
+      (any-of-row code mark span (set up a goneRow) p (Onto (tagAt code mark a) (leftBelow code mark span up a)) (suc p) (p + getD span p 0) (below span p)
+      (S .held) b (D .top) e (rw (same-top b (D .top)) f)))
 
 -- ------------------------------------------------------------------ the search
--- row a does not fold onto y, if y is another child of p that is still there
-abbrev pub Missing : List ℕ → List ℕ → List ℕ → List ℕ → ℕ → ℕ → ℕ → Type 0
-Missing code mark span up p a y = ¬ (a ≡ y) → getD up y 0 ≡ p → ¬ OntoRow code mark span up a y
-
 -- some children of p have gone, each folding onto one that stayed
 pub record Searched (code mark span up : List ℕ) (p : ℕ) (up′ : List ℕ) : Type 0 where
   pub long : length up′ ≡ length up
@@ -143,77 +128,83 @@ searched-stands : {code mark span up : List ℕ} {p : ℕ} {up′ : List ℕ} �
 searched-stands S W =
     record { some = S .some; codes = S .codes; marks = S .marks; spans = S .spans; ups = omega (arith, S .ups, W .long); few = S .few; held = S .held }
 
--- the search has come to the end
-pub searched-all : {code mark span up : List ℕ} {p : ℕ} {up′ : List ℕ} {a e : ℕ} → Stands code mark span up p → Searched code mark span up p up′
-    → Over span p (Alone code mark span up′ p) a e → e ≤ a → ChildrenFolded code mark span up p up′
-searched-all {code} {mark} {span} {up} {p} {up′} S W O l =
-    record {
-      to = W .equal .0;
-      from = W .equal .1;
-      apart = apart-of-rows code mark span up′ p (suc p) (p + getD span p 0) (below span p) (S .held) (λ x y s t d f n. over-all O l x s d y t n f);
-      only = W .only;
-    }
+-- the children that are left are listed
+module _ {code mark span up : List ℕ} {p : ℕ} {up′ : List ℕ} (S : Stands code mark span up p) (W : Searched code mark span up p up′)
+    {child : List ℕ} {k : ℕ} (L : Listed span up′ p child k) where
+  T : Stands code mark span up′ p
+  T = searched-stands S W
 
--- a test of two children, as the code makes it
-brother : (a b : ℕ) (x : Bool) → (not (eqb a b) && x) ≡ true → (¬ (a ≡ b)) × (x ≡ true)
-brother a b x e = go (ℕ-discrete a b)
-  where
-    go : Dec (a ≡ b) → (¬ (a ≡ b)) × (x ≡ true)
-    go (yes q) =
-        let z : _≡_ {A = Bool} false true = rw (eq-eqb a b q) at e in let y : _≡_ {A = ℕ} 0 1 = cc in absurd (omega arith)
-    go (no n) = (n, rw (ne-eqb a b n) at e)
+  pub searchable : {i : ℕ} → i ≤ k → Searchable code mark span up′ child i k
+  searchable l = record {
+    begun = l;
+    room = L .room;
+    stand = λ j m. stands-child code mark span up′ p _ T (top-opens span (suc p) (p + getD span p 0) (below span p) (S .held) _ (L .each j m .top));
+  }
 
--- the search stands at row a of up (called a₁ and up₁ where the loop over b began): a stays, on with the next child
-module _ {code mark span up₀ up₁ up : List ℕ} {p a₁ a e : ℕ} (W : Searched code mark span up₀ p up₁) (O : Over span p (Alone code mark span up₁ p) a₁ e)
-    (l : a₁ < e) (u : up ≡ up₁) (q : a ≡ a₁) {s : ℕ} (d : s ≡ getD span a 0) where
-  pub stays : Alone code mark span up₁ p a₁ → Searched code mark span up₀ p up × Over span p (Alone code mark span up p) (a + s) e
-  stays f = rw (u, q) (W, over-next O l (rw q at d) f)
+  pub listed-inside : (i : ℕ) → i < k → getD child i 0 < length up′
+  listed-inside i l = omega (arith, top-range span (suc p) (p + getD span p 0) (below span p) (S .held) _ (L .each i l .top), T .ups)
 
-  -- it folds onto no other child
-  pub stays-alone : {b : ℕ} → Over span p (Missing code mark span up₁ p a₁) b e → e ≤ b
-      → Searched code mark span up₀ p up × Over span p (Alone code mark span up p) (a + s) e
-  stays-alone I m = stays (λ c. over-all I m)
-
-  pub step : (1 ≤ s) × (a + s ≤ e)
-  step = rw q (over-step O l (rw q at d))
-
-module _ {code mark span up₀ up₁ up : List ℕ} {p a₁ a b e : ℕ} (S : Stands code mark span up₀ p) (W : Searched code mark span up₀ p up₁)
-    (O : Over span p (Alone code mark span up₁ p) a₁ e) (l : a₁ < e) (u : up ≡ up₁) (q : a ≡ a₁) (I : Over span p (Missing code mark span up₁ p a₁) b e)
-    (m : b < e) where
-  pub calls : Stands code mark span up a × Stands code mark span up b
-  calls =
-      let T = searched-stands S W in
-      rw (u, q) (stands-child code mark span up₁ p a₁ T (over-child O l .1), stands-child code mark span up₁ p b T (over-child I m .1))
-
-  pub inside : a < length up
-  inside = let T = searched-stands S W in rw (u, q) (omega (arith, T .ups, O .ends))
-
-  -- the first foldable pair: a goes
-  pub goes : {s : ℕ} → s ≡ getD span a 0 → getD up₁ a₁ 0 ≡ p → {r w : Bool} → r ≡ (not (eqb a b) && eqb (getD up b 0) p) → r ≡ true → w ≡ ontoRow code mark span up a b → w ≡ true
-      → Searched code mark span up₀ p (set up a goneRow) × Over span p (Alone code mark span (set up a goneRow) p) (a + s) e
-  goes d c x y f g =
-      let T = searched-stands S W in
-      let h = over-child O l in
-      let k = brother a₁ b (eqb (getD up₁ b 0) p) (rw (u, q) at (sym x ∙ y)) in
-      let o = true-onto code mark span up₁ a₁ b (rw (u, q) at (sym f ∙ g)) in
-      rw (u, q) (
-        record {
-          long = length-set up₁ a₁ goneRow ∙ W .long;
-          only = only-trans span p up₀ up₁ (set up₁ a₁ goneRow) (W .only) (goes-only code mark span up₁ p a₁ T (h .0) c);
-          equal =
-              equal-trans (leftBelow code mark span up₀ p) (leftBelow code mark span up₁ p) (leftBelow code mark span (set up₁ a₁ goneRow) p) (W .equal) (goes-equal code mark span up₁ p a₁ T (h .0) c b (over-child I m .0) (eqb-true _ _ (k .1)) (k .0) o);
-        },
-        over-next (over-map O (goes-alone code mark span up₁ p a₁ T (h .0) c)) l (rw q at d) (λ z. absurd (was code mark span up₁ p a₁ T (h .0) c a₁ z .0 refl)),
-      )
-
-  -- b is not another child, or a does not fold onto it: on with the next one
-  pub misses : {s : ℕ} → s ≡ getD span b 0 → (r : Bool) → r ≡ (not (eqb a b) && eqb (getD up b 0) p)
-      → (r ≡ false) ⊎ ((w : Bool) × (w ≡ ontoRow code mark span up a b) × (w ≡ false)) → Over span p (Missing code mark span up₁ p a₁) (b + s) e
-  misses d r x f = over-next I m d (go f)
+  -- none of them folds onto another one
+  pub searched-all : {i : ℕ} → FirstFoldable code mark span up′ child 0 k i → k ≤ i → ChildrenFolded code mark span up p up′
+  searched-all {i} F l =
+      record {
+        to = W .equal .0;
+        from = W .equal .1;
+        apart =
+            apart-of-rows code mark span up′ p (suc p) (p + getD span p 0) (below span p) (S .held)
+            (λ x y s t d f n o. apart x y n o (L .all x (record { top = s; there = d })) (L .all y (record { top = t; there = f })));
+        only = W .only;
+      }
     where
-      go : (r ≡ false) ⊎ ((w : Bool) × (w ≡ ontoRow code mark span up a b) × (w ≡ false)) → Missing code mark span up₁ p a₁ b
-      go (inl h) n z =
-          let y : (not (eqb a₁ b) && eqb (getD up₁ b 0) p) ≡ true = rw (ne-eqb a₁ b n, eq-eqb (getD up₁ b 0) p z) in
-          let v : (not (eqb a₁ b) && eqb (getD up₁ b 0) p) ≡ false = rw (u, q) at (sym x ∙ h) in
-          let k : _≡_ {A = ℕ} 0 1 = cc in absurd (omega arith)
-      go (inr (w, g, h)) n z = false-onto code mark span up₁ a₁ b (rw (u, q) at (sym g ∙ h))
+      apart : (x y : ℕ) → ¬ (x ≡ y) → OntoRow code mark span up′ x y
+          → (i : ℕ) × (i < k) × (getD child i 0 ≡ x) → (j : ℕ) × (j < k) × (getD child j 0 ≡ y) → ⊥
+      apart x y n o (i, a, b) (j, c, d) =
+          F .before i (omega arith) (omega arith) (j, c, λ e. n (sym b ∙ ap (λ h. getD child h 0) e ∙ d), rw (b, d) o)
+
+  -- where there is one child or none, there is no pair
+  pub searched-few : k < 2 → ChildrenFolded code mark span up p up′
+  searched-few l =
+      searched-all {i = k}
+      (record { begun = omega arith; until = omega arith; before = λ i a b f. f .2 (omega (arith, f .1)); here = λ n. absurd (omega arith) }) (omega arith)
+
+  -- the i-th folds onto another one and is taken out; m others are left
+  module _ {i m : ℕ} (F : FirstFoldable code mark span up′ child 0 k i) (q : k ≡ m + 1) (l : i < k)
+      {up″ child″ : List ℕ} (X : TakenOut up′ child i m up″ child″) where
+    pub goes : Searched code mark span up p up″ × Listed span up″ p child″ m
+    goes = rw (X .ups, X .list) (
+      record {
+        long = length-set up′ _ goneRow ∙ W .long;
+        only = only-trans span p up up′ _ (W .only) (goes-only code mark span up′ p _ T (L .each i l));
+        equal =
+            equal-trans (leftBelow code mark span up p) (leftBelow code mark span up′ p) (leftBelow code mark span _ p) (W .equal) (equal (F .here l));
+      },
+      lists-less q i (omega arith) L
+          (λ x c n. record { top = c .top; there = getD-set-other up′ _ x goneRow 0 n ∙ c .there })
+          (λ x c. let w = was code mark span up′ p _ T (L .each i l) x (c .there) in (record { top = c .top; there = w .1 }, w .0)),
+    )
+      where
+        equal : Foldable code mark span up′ child k i
+            → Equal (leftBelow code mark span up′ p) (leftBelow code mark span (set up′ (getD child i 0) goneRow) p)
+        equal (j, a, n, o) = goes-equal code mark span up′ p _ T (L .each i l) _ (L .each j a) (λ e. n (L .once i j l a e)) o
+
+    -- what folds onto another one now did so before
+    folded : (j : ℕ) → j < i → Foldable code mark span (set up′ (getD child i 0) goneRow) (set child i (getD child m 0)) m j
+        → Foldable code mark span up′ child k j
+    folded j b (h, a, n, o) =
+        let w = stood child i m (omega arith) (omega (arith, L .room)) h a in
+        let c : w .place < k = omega (arith, w .inside) in
+        let same = same-top code mark span up′ p _ T (L .each i l) in
+        let e = getD-set-other child i j (getD child m 0) 0 (λ z. omega arith) in
+        (w .place, c, other (w .whence), rw (e, w .same, same _ (L .each j (omega arith) .top), same _ (L .each (w .place) c .top)) at o)
+      where
+        other : {x : ℕ} → Whence i m h x → ¬ (j ≡ x)
+        other (inl (e, d)) z = n (z ∙ e)
+        other (inr (e, d)) z = omega arith
+
+    -- so the search goes on from the i-th place
+    pub goes-on : {r : ℕ} → FirstFoldable code mark span up″ child″ i m r → FirstFoldable code mark span up″ child″ 0 m r
+    goes-on {r} G = record { begun = omega arith; until = G .until; before = λ j a b. before j a (decLt j i); here = G .here }
+      where
+        before : (j : ℕ) → j < r → Dec (j < i) → ¬ Foldable code mark span up″ child″ m j
+        before j a (yes b) f = F .before j b (omega arith) (folded j b (rw (X .ups, X .list) at f))
+        before j a (no b) f = G .before j a (omega arith) f

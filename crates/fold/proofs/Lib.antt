@@ -1,5 +1,6 @@
 mod Brothers
 mod Test
+mod Listing
 mod Children
 pub mod Whole
 mod Moved

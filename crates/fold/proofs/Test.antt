@@ -15,8 +15,8 @@ use Rattle.meaning.specs.Tree.{Forest, bare, tree}
 use Rattle.meaning.specs.Folding.{LabLe, MarkLe, TagLe, Folds, Onto, decLab, decMark, decTag, decFolds, decOnto}
 use Rattle.rows.specs.Rows.{labOf, tagAt, below, Holds}
 use Rattle.rows.proofs.Rows.{Opens, holds-first}
-use Rattle.fold.specs.Kept.{leftBelow, marksFit, fitsChild, belowFold, OntoRow, ontoRow, height, Stands}
-use Rattle.fold.proofs.Brothers.{Top, Over, Lands, over-start, over-child, over-step, over-next, over-all, any-of-row, row-of-any, folds-of-rows, row-of-folds}
+use Rattle.fold.specs.Kept.{leftBelow, marksFit, fitsChild, belowFold, OntoRow, ontoRow, height, Stands, Top}
+use Rattle.fold.proofs.Brothers.{Over, Lands, over-start, over-child, over-step, over-next, over-all, any-of-row, row-of-any, folds-of-rows, row-of-folds}
 
 -- ------------------------------------------------------------------ decisions as truth values
 is-yes : {P : Type 0} (d : Dec P) → P → true ≡ is d
@@ -155,13 +155,13 @@ module _ (code mark span up : List ℕ) where
   Misses v a y = getD up y 0 ≡ v → ¬ OntoRow code mark span up a y
 
   module _ (u v : ℕ) where
-    pub true-onto : ontoRow code mark span up u v ≡ true → OntoRow code mark span up u v
+    pub true-onto : {w : Bool} → w ≡ ontoRow code mark span up u v → w ≡ true → OntoRow code mark span up u v
     unfolding ontoRow
-    true-onto e = true-is (ontoDec code mark span up u v) e
+    true-onto e f = true-is (ontoDec code mark span up u v) (sym e ∙ f)
 
-    pub false-onto : ontoRow code mark span up u v ≡ false → ¬ OntoRow code mark span up u v
+    pub false-onto : {w : Bool} → w ≡ ontoRow code mark span up u v → w ≡ false → ¬ OntoRow code mark span up u v
     unfolding ontoRow
-    false-onto e = false-is (ontoDec code mark span up u v) e
+    false-onto e f = false-is (ontoDec code mark span up u v) (sym e ∙ f)
 
     pub onto-no-tag : is (decTag (tagAt code mark u) (tagAt code mark v)) ≡ false → false ≡ ontoRow code mark span up u v
     unfolding ontoRow

@@ -1,13 +1,12 @@
 -- "Folding stops when no two brothers anywhere in the tree are left that fold" (01, Folding): the rows from the last to the first, each row's children
 -- folded to the end. What is left is the minimal tree up to the order of brothers.
-use mathlib.Core.Path.{_≡_, refl, ap, _∙_}
+use mathlib.Core.Path.{_≡_, refl, _∙_}
 use mathlib.Core.Logic.{_⊎_, inl, inr}
 use mathlib.Core.List.{List}
 use Prim.Native.Nat.{ℕ, suc, _+_, _≤_, _<_}
 use native.Mathlib.Omega.{arith}
 use native.Mathlib.Decide.{ℕ-discrete, decLt}
 use lib.ListN.{length, getD}
-use borrow.Author.Tests.{eq-eqb}
 use Rattle.meaning.specs.Tree.{Forest, bare, tree, size}
 use Rattle.meaning.specs.Folding.{Reduced, minimal}
 use Rattle.theory.proofs.Folding.{Equal, equal-trans, equal-tree}
@@ -15,8 +14,8 @@ use Rattle.theory.proofs.Unique.{minimal-same}
 use Rattle.theory.proofs.Records.{same-ordered}
 use Rattle.rows.specs.Rows.{tagAt, below, shape, mapT, treeRows, Holds, Hung, width, noRow, Rows}
 use Rattle.rows.proofs.Rows.{Opens, holds-first, row-opens}
-use Rattle.fold.specs.Kept.{goneRow, kept, left, leftBelow, keptTree, Stands, Goes, NoneFold, ChildrenFolded, Whole, RowsFolded, Remains}
-use Rattle.fold.proofs.Brothers.{Top, top-range, left-bare, left-here, left-away, left-ind}
+use Rattle.fold.specs.Kept.{goneRow, left, leftBelow, keptTree, Stands, Top, Goes, NoneFold, ChildrenFolded, Whole, RowsFolded, Remains}
+use Rattle.fold.proofs.Brothers.{top-range, left-bare, left-here, left-away, left-ind}
 use Rattle.fold.proofs.Children.{below-same}
 
 -- ------------------------------------------------------------------ parents

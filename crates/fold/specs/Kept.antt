@@ -72,6 +72,59 @@ pub record Stands (code mark span up : List ℕ) (u : ℕ) : Type 0 where
   pub few : u + getD span u 0 ≤ 256
   pub held : Holds span (suc u) (u + getD span u 0) (below span u)
 
+-- ------------------------------------------------------------------ the search for foldable brothers
+-- row j is one of the brothers
+abbrev pub Top : ℕ → Forest ℕ → Type 0
+Top j bare = ⊥
+Top j (tree i k r) = (j ≡ i) ⊎ Top j r
+
+-- row x is a child of row p that is still there
+pub record Child (span up : List ℕ) (p x : ℕ) : Type 0 where
+  pub top : Top x (below span p)
+  pub there : getD up x 0 ≡ p
+
+-- row p and all below it stand in the two lists, laid out in image order, and there is room to list them
+pub record Listable (span up : List ℕ) (p : ℕ) (child : List ℕ) : Type 0 where
+  pub spans : p + getD span p 0 ≤ length span
+  pub some : 1 ≤ getD span p 0
+  pub ups : p + getD span p 0 ≤ length up
+  pub few : p + getD span p 0 ≤ 256
+  pub held : Holds span (suc p) (p + getD span p 0) (below span p)
+  pub room : 256 ≤ length child
+
+-- the first k of the list are the rows that are P, each once
+pub record Lists (P : ℕ → Type 0) (child : List ℕ) (k : ℕ) : Type 0 where
+  pub room : k ≤ length child
+  pub each : (i : ℕ) → i < k → P (getD child i 0)
+  pub all : (x : ℕ) → P x → (i : ℕ) × (i < k) × (getD child i 0 ≡ x)
+  pub once : (i j : ℕ) → i < k → j < k → getD child i 0 ≡ getD child j 0 → i ≡ j
+
+-- the first k of the list are the children of row p that are still there
+abbrev pub Listed : List ℕ → List ℕ → ℕ → List ℕ → ℕ → Type 0
+Listed span up p child k = Lists (Child span up p) child k
+
+-- of k listed rows, the i-th folds onto another one
+abbrev pub Foldable : List ℕ → List ℕ → List ℕ → List ℕ → List ℕ → ℕ → ℕ → Type 0
+Foldable code mark span up child k i = (j : ℕ) × (j < k) × (¬ (i ≡ j)) × OntoRow code mark span up (getD child i 0) (getD child j 0)
+
+-- k listed rows stand in the four lists, to be searched from place `from` on
+pub record Searchable (code mark span up child : List ℕ) (from k : ℕ) : Type 0 where
+  pub begun : from ≤ k
+  pub room : k ≤ length child
+  pub stand : (i : ℕ) → i < k → Stands code mark span up (getD child i 0)
+
+-- r is the first place from `from` on at which a foldable row is listed, or k where there is none
+pub record FirstFoldable (code mark span up child : List ℕ) (from k r : ℕ) : Type 0 where
+  pub begun : from ≤ r
+  pub until : r ≤ k
+  pub before : (i : ℕ) → i < r → from ≤ i → ¬ Foldable code mark span up child k i
+  pub here : r < k → Foldable code mark span up child k r
+
+-- the i-th listed row goes, and what is listed at k takes its place in the list
+pub record TakenOut (up child : List ℕ) (i k : ℕ) (up′ child′ : List ℕ) : Type 0 where
+  pub ups : up′ ≡ set up (getD child i 0) goneRow
+  pub list : child′ ≡ set child i (getD child k 0)
+
 -- ------------------------------------------------------------------ folding to the end
 -- no two of these brothers fold
 abbrev pub NoneFold : Forest Tag → Type 0

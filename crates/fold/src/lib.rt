@@ -5,11 +5,10 @@ ghost use Prim.Native.Nat.{_+_, _<_, _≤_};
 ghost use lib.ListN.{length, getD};
 ghost use lib.Dec.{eqb};
 ghost use mathlib.Core.Logic.{_⊎_};
-ghost use mathlib.Core.Bool.{not, _&&_};
 ghost use Rattle.meaning.specs.Basics.{is};
 ghost use Rattle.meaning.specs.Folding.{decLab, decTag};
 ghost use Rattle.rows.specs.Rows.{labOf, tagAt, noRow};
-ghost use Rattle.fold.specs.Kept.{marksFit, fitsChild, belowFold, ontoRow, Stands, ChildrenFolded, Whole, RowsFolded, parentMoved, Movable, RowMoved, Remains, RowsKept};
+ghost use Rattle.fold.specs.Kept.{marksFit, fitsChild, belowFold, ontoRow, Stands, Listable, Listed, Searchable, FirstFoldable, TakenOut, ChildrenFolded, Whole, RowsFolded, parentMoved, Movable, RowMoved, Remains, RowsKept};
 
 const GONE: u16 = 65534;
 
@@ -130,52 +129,112 @@ pub fn folds_onto(code: &[u32], mark: &[u8], span: &[u16], up: &[u16], u: usize,
     children_fold(code, mark, span, up, u, v)
 }
 
-// Row b is a child of row p that is still there, and not row a.
-fn is_brother(up: &[u16], p: usize, a: usize, b: usize) -> bool
-    requires { ⌜ b < length (now up) ⌝ }
-    ensures { λ r. ⌜ r ≡ (not (eqb a b) && eqb (getD (now (up .entry)) b 0) p) ⌝ }
-{
-    if a == b {
-        return false;
-    }
-    is_child(up, p, b)
-}
-
-// Each child of row p that folds onto another one goes: the search is left at the first foldable pair and goes on behind the one that went.
-pub fn fold_children(code: &[u32], mark: &[u8], span: &[u16], up: &mut [u16], p: usize)
-    requires { ⌜ Stands (now code) (now mark) (now span) (now up) p ⌝ }
-    ensures { λ _. ⌜ ChildrenFolded (now (code .entry)) (now (mark .entry)) (now (span .entry)) (now (up .entry)) p (now (up .exit)) ⌝ }
+// Lists the children of row p that are still there. Returns how many there are.
+fn list_children(span: &[u16], up: &[u16], p: usize, child: &mut [u16]) -> usize
+    requires { ⌜ Listable (now span) (now up) p (now child) ⌝ }
+    ensures { λ r. ⌜ Listed (now (span .entry)) (now (up .entry)) p (now (child .exit)) r ⌝ }
 {
     let end = p + span_at(span, p);
-    let mut a = p + 1;
-    'search: while a < end {
-        if is_child(up, p, a) {
-            let mut b = p + 1;
-            while b < end {
-                if is_brother(up, p, a, b) {
-                    if folds_onto(code, mark, span, up, a, b) {
-                        let next = a + span_at(span, a);
-                        up[a] = GONE;
-                        a = next;
-                        continue 'search;
-                    }
-                }
-                b += span_at(span, b);
-            }
+    let mut c = p + 1;
+    let mut k: usize = 0;
+    while c < end {
+        if is_child(up, p, c) {
+            child[k] = c as u16;
+            k += 1;
         }
-        a += span_at(span, a);
+        c += span_at(span, c);
+    }
+    k
+}
+
+// The i-th listed child.
+fn child_at(child: &[u16], i: usize) -> usize
+    requires { ⌜ i < length (now child) ⌝ }
+    ensures { λ r. ⌜ r ≡ getD (now (child .entry)) i 0 ⌝ }
+{
+    wide(child[i])
+}
+
+// The first of the k listed children, from the one at `from` on, that folds onto another of them: its place, and k where there is none.
+fn first_foldable(
+    code: &[u32],
+    mark: &[u8],
+    span: &[u16],
+    up: &[u16],
+    child: &[u16],
+    from: usize,
+    k: usize,
+) -> usize
+    requires { ⌜ Searchable (now code) (now mark) (now span) (now up) (now child) from k ⌝ }
+    ensures { λ r. ⌜ FirstFoldable (now (code .entry)) (now (mark .entry)) (now (span .entry)) (now (up .entry)) (now (child .entry)) from k r ⌝ }
+{
+    let mut i = from;
+    'pair: while i < k {
+        let u = child_at(child, i);
+        let mut j: usize = 0;
+        while j < k {
+            if i != j {
+                if folds_onto(code, mark, span, up, u, child_at(child, j)) {
+                    break 'pair;
+                }
+            }
+            j += 1;
+        }
+        i += 1;
+    }
+    i
+}
+
+// The i-th listed child goes, and the last in the list, at k, takes its place there.
+fn take_out(up: &mut [u16], child: &mut [u16], i: usize, k: usize)
+    requires { ⌜ (i < length (now child)) × (k < length (now child)) × (getD (now child) i 0 < length (now up)) ⌝ }
+    ensures { λ _. ⌜ TakenOut (now (up .entry)) (now (child .entry)) i k (now (up .exit)) (now (child .exit)) ⌝ }
+{
+    up[child_at(child, i)] = GONE;
+    child[i] = child[k];
+}
+
+// Each child of row p that folds onto another one goes. Behind it the search goes on from its place: what did not fold before does not fold now.
+pub fn fold_children(
+    code: &[u32],
+    mark: &[u8],
+    span: &[u16],
+    up: &mut [u16],
+    p: usize,
+    child: &mut [u16],
+)
+    requires { ⌜ Stands (now code) (now mark) (now span) (now up) p × (256 ≤ length (now child)) ⌝ }
+    ensures { λ _. ⌜ ChildrenFolded (now (code .entry)) (now (mark .entry)) (now (span .entry)) (now (up .entry)) p (now (up .exit)) ⌝ }
+{
+    let mut k = list_children(span, up, p, child);
+    // most rows have one child or none
+    if k < 2 {
+        return;
+    }
+    let mut i = first_foldable(code, mark, span, up, child, 0, k);
+    while i < k {
+        k -= 1;
+        take_out(up, child, i, k);
+        i = first_foldable(code, mark, span, up, child, i, k);
     }
 }
 
-// "Folding stops when no two brothers anywhere in the tree are left that fold": from the last row to the first.
-pub fn fold_rows(code: &[u32], mark: &[u8], span: &[u16], up: &mut [u16], n: usize)
-    requires { ⌜ Whole (now code) (now mark) (now span) (now up) n ⌝ }
+// "Folding stops when no two brothers anywhere in the tree are left that fold": from the last row to the first. The slice `child` is lent to work in.
+pub fn fold_rows(
+    code: &[u32],
+    mark: &[u8],
+    span: &[u16],
+    up: &mut [u16],
+    n: usize,
+    child: &mut [u16],
+)
+    requires { ⌜ Whole (now code) (now mark) (now span) (now up) n × (256 ≤ length (now child)) ⌝ }
     ensures { λ _. ⌜ RowsFolded (now (code .entry)) (now (mark .entry)) (now (span .entry)) (now (up .entry)) n (now (up .exit)) ⌝ }
 {
     let mut p = n;
     while 0 < p {
         p -= 1;
-        fold_children(code, mark, span, up, p);
+        fold_children(code, mark, span, up, p, child);
     }
 }
 

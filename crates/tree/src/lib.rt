@@ -142,7 +142,7 @@ pub fn minimal_rows(
         span,
         up,
     );
-    fold::fold_rows(&labels, &marks, span, up, n);
+    fold::fold_rows(&labels, &marks, span, up, n, &mut next);
     let mut parent = [0u16; 256];
     let m = fold::keep_rows(&mut labels, &mut marks, span, up, n, &mut parent, &mut row);
     let mut key = [0u64; 256];

@@ -1,198 +1,73 @@
--- The children of p are folded to the end. Every child before a that is still there folds onto no other one; the inner loop has shown that a misses every
--- child before b. Whatever has gone folded onto a child that stayed.
-use Prim.Native.Nat.{_-_}
-use mathlib.Core.Path.{_≡_, refl, sym, ap, _∙_}
-use mathlib.Core.Logic.{⊎-elim, inl, inr}
+-- The children of p are folded to the end. Those that are left are listed, none of them before the i-th folds onto another one, and the i-th does, if
+-- there is one. Whatever has gone folded onto a child that stayed.
+use mathlib.Core.Path.{_≡_, refl, _∙_}
 use native.Mathlib.Omega.{arith}
 use lib.ListN.{length}
-use borrow.Author.Tests.{eqb-true, eqb-false}
-use Rattle.fold.proofs.Brothers.{Over, over-start, over-step}
-use Rattle.fold.proofs.Children.{Alone, Missing, Searched, searched-none, searched-all, calls, inside, step, stays, stays-alone, goes, misses}
+use Rattle.fold.specs.Kept.{Listed, FirstFoldable}
+use Rattle.fold.proofs.Children.{Searched, searched-none, searched-few, searched-all, searchable, listed-inside, goes, goes-on}
+use borrow.Author.Needs.{needs}
 use Rattle.fold.proofs.fold_children.Statement.{statement}
 use Rattle.fold.proofs.fold_children.Tie as tie
 
 abbrev Inv-loop : tie.InvT-loop
-Inv-loop code mark span up₀ p end a₀ b₀ up a b = (up ≡ up₀) × (a ≡ a₀) × Over span p (Missing code mark span up₀ p a₀) b end
+Inv-loop code mark span up₀ p child₀ k₀ i₀ up child k i =
+    (length child ≡ length child₀) × Searched code mark span up₀ p up × Listed span up p child k × FirstFoldable code mark span up child 0 k i
 
 abbrev μ-loop : tie.MeasureT-loop
-μ-loop code mark span up₀ p end a₀ b₀ up a b = end - b
+μ-loop code mark span up₀ p child₀ k₀ i₀ up child k i = k
 
-abbrev Inv-search : tie.InvT-search
-Inv-search code mark span up₀ p end a₀ up a = Searched code mark span up₀ p up × Over span p (Alone code mark span up p) a end
+same-length-2 : tie.Need-same-length-2 Inv-loop μ-loop
+same-length-2 c = c .before .before .before .list-children .kept .1 .1 .1 .0
 
-abbrev μ-search : tie.MeasureT-search
-μ-search code mark span up₀ p end a₀ up a = end - a
-
-span-at-requires : tie.Need-span-at-requires Inv-loop μ-loop Inv-search μ-search
-span-at-requires c κs =
-    let s = c .before .before .before .before in
-    omega (arith, s .pre)
-
-add-end : tie.Need-add-end Inv-loop μ-loop Inv-search μ-search
-add-end c =
-    let s = c .before .before .before .before .before in
-    omega (arith, s .pre, c .span-at .ensures)
-
-add-a : tie.Need-add-a Inv-loop μ-loop Inv-search μ-search
-add-a c =
-    let s = c .before .before .before .before .before in
-    omega (arith, s .pre)
-
-search-holds : tie.Need-search-holds Inv-loop μ-loop Inv-search μ-search
-search-holds c =
-    let s = c .before .before .before .before .before in
-    (searched-none _ _ _ _ _, over-start _ _ _ _ (omega (arith, c .span-at .ensures)) (s .pre .held))
-
-is-child-requires : tie.Need-is-child-requires Inv-loop μ-loop Inv-search μ-search
-is-child-requires c κs =
-    let s = c .before .before .before .before .before .before .before .before in
-    omega (arith, s .pre .ups, c .before .before .search .inv .0 .long, c .before .before .search .inv .1 .ends, c .before .search-test .taken)
-
-add-b : tie.Need-add-b Inv-loop μ-loop Inv-search μ-search
-add-b c =
-    let s = c .before .before .before .before .before .before .before .before .before .before in
-    omega (arith, s .pre)
-
-loop-holds : tie.Need-loop-holds Inv-loop μ-loop Inv-search μ-search
-loop-holds c =
-    let span-at = c .before .before .before .before .before .span-at in
-    let s = c .before .before .before .before .before .before .before .before .before .before in
-    (refl, refl, over-start _ _ _ _ (omega (arith, span-at .ensures)) (s .pre .held))
-
-is-brother-requires : tie.Need-is-brother-requires Inv-loop μ-loop Inv-search μ-search
-is-brother-requires c κs =
-    let s = c .before .before .before .before .before .before .before .before .before .before .before .before .before in
-    let search = c .before .before .before .before .before .before .before .search in
-    let e = ap length (c .before .before .loop .inv .0) in omega (arith, s .pre .ups, search .inv .0 .long, c .before .before .loop .inv .2 .ends, c .before .loop-test .taken)
-
-folds-onto-requires : tie.Need-folds-onto-requires Inv-loop μ-loop Inv-search μ-search
-folds-onto-requires c κs =
-    let s = c .before .before .before .before .before .before .before .before .before .before .before .before .before .before .before .before in
-    let search = c .before .before .before .before .before .before .before .before .before .before .search in
-    let search-test = c .before .before .before .before .before .before .before .before .before .search-test in
-    let loop = c .before .before .before .before .before .loop in
-    let loop-test = c .before .before .before .before .loop-test in
-    calls (s .pre) (search .inv .0) (search .inv .1) (search-test .taken) (loop .inv .0) (loop .inv .1) (loop .inv .2) (loop-test .taken)
-
-span-at-requires-2 : tie.Need-span-at-requires-2 Inv-loop μ-loop Inv-search μ-search
-span-at-requires-2 c κs =
-    let s = c .before .before .before .before .before .before .before .before .before .before .before .before .before .before .before .before .before .before in
-    let search = c .before .before .before .before .before .before .before .before .before .before .before .before .search in
-    let search-test = c .before .before .before .before .before .before .before .before .before .before .before .search-test in
-    let loop = c .before .before .before .before .before .before .before .loop in
-    omega (arith, s .pre .spans, search .inv .1 .ends, search-test .taken, loop .inv .1)
-
-add-next : tie.Need-add-next Inv-loop μ-loop Inv-search μ-search
-add-next c =
-    let s = c .before .before .before .before .before .before .before .before .before .before .before .before .before .before .before .before .before .before .before in
-    let search = c .before .before .before .before .before .before .before .before .before .before .before .before .before .search in
-    let search-test = c .before .before .before .before .before .before .before .before .before .before .before .before .search-test in
-    let loop = c .before .before .before .before .before .before .before .before .loop in
-    omega (arith, s .pre .spans, search .inv .1 .ends, step (search .inv .0) (search .inv .1) (search-test .taken) (loop .inv .0) (loop .inv .1) (c .span-at2 .ensures))
-
-mul-up : tie.Need-mul-up Inv-loop μ-loop Inv-search μ-search
-mul-up c =
-    let s = c .before .before .before .before .before .before .before .before .before .before .before .before .before .before .before .before .before .before .before in
-    let search = c .before .before .before .before .before .before .before .before .before .before .before .before .before .search in
-    let search-test = c .before .before .before .before .before .before .before .before .before .before .before .before .search-test in
-    let loop = c .before .before .before .before .before .before .before .before .loop in
-    let loop-test = c .before .before .before .before .before .before .before .loop-test in
-    omega (arith, inside (s .pre) (search .inv .0) (search .inv .1) (search-test .taken) (loop .inv .0) (loop .inv .1) (loop .inv .2) (loop-test .taken), s .pre .few, search .inv .1 .ends, search-test .taken, loop .inv .1)
-
-slice-write-up : tie.Need-slice-write-up Inv-loop μ-loop Inv-search μ-search
-slice-write-up c =
-    let s = c .before .before .before .before .before .before .before .before .before .before .before .before .before .before .before .before .before .before .before in
-    let search = c .before .before .before .before .before .before .before .before .before .before .before .before .before .search in
-    let search-test = c .before .before .before .before .before .before .before .before .before .before .before .before .search-test in
-    let loop = c .before .before .before .before .before .before .before .before .loop in
-    let loop-test = c .before .before .before .before .before .before .before .loop-test in
-    inside (s .pre) (search .inv .0) (search .inv .1) (search-test .taken) (loop .inv .0) (loop .inv .1) (loop .inv .2) (loop-test .taken)
-
-search-less : tie.Need-search-less Inv-loop μ-loop Inv-search μ-search
-search-less c =
-    let loop = c .before .before .before .before .before .before .before .before .loop in
-    let search = c .before .before .before .before .before .before .before .before .before .before .before .before .before .search in
-    let search-test = c .before .before .before .before .before .before .before .before .before .before .before .before .search-test in
-    omega (arith, loop .inv .1, step (search .inv .0) (search .inv .1) (search-test .taken) (loop .inv .0) (loop .inv .1) (c .span-at2 .ensures))
-
-search-again : tie.Need-search-again Inv-loop μ-loop Inv-search μ-search
-search-again c =
-    let s = c .before .before .before .before .before .before .before .before .before .before .before .before .before .before .before .before .before .before .before in
-    let search = c .before .before .before .before .before .before .before .before .before .before .before .before .before .search in
-    let search-test = c .before .before .before .before .before .before .before .before .before .before .before .before .search-test in
-    let loop = c .before .before .before .before .before .before .before .before .loop in
-    let loop-test = c .before .before .before .before .before .before .before .loop-test in
-    let is-child = c .before .before .before .before .before .before .before .before .before .before .is-child in
-    let if1 = c .before .before .before .before .before .before .before .before .before .if1 in
-    let is-brother = c .before .before .before .before .before .is-brother in
-    let if2 = c .before .before .before .before .if2 in
-    goes (s .pre) (search .inv .0) (search .inv .1) (search-test .taken) (loop .inv .0) (loop .inv .1) (loop .inv .2) (loop-test .taken) (c .span-at2 .ensures) (eqb-true _ _ (sym (is-child .ensures) ∙ if1 .taken)) (is-brother .ensures) (if2 .taken) (c .before .before .folds-onto .ensures) (c .before .if3 .taken)
-
-span-at-requires-3 : tie.Need-span-at-requires-3 Inv-loop μ-loop Inv-search μ-search
-span-at-requires-3 c κs =
-    let s = c .before .before .before .before .before .before .before .before .before .before .before .before .before .before .before in
-    let loop = c .before .before .before .before .loop in
-    let loop-test = c .before .before .before .loop-test in
-    omega (arith, s .pre .spans, loop .inv .2 .ends, loop-test .taken)
-
-add-b-2 : tie.Need-add-b-2 Inv-loop μ-loop Inv-search μ-search
-add-b-2 c =
-    let s = c .before .before .before .before .before .before .before .before .before .before .before .before .before .before .before .before in
-    let loop = c .before .before .before .before .before .loop in
-    let loop-test = c .before .before .before .before .loop-test in
-    omega (arith, s .pre .spans, loop .inv .2 .ends, over-step (loop .inv .2) (loop-test .taken) (c .span-at3 .ensures))
-
-loop-less : tie.Need-loop-less Inv-loop μ-loop Inv-search μ-search
-loop-less c =
-    let loop = c .before .before .before .before .before .loop in
-    let loop-test = c .before .before .before .before .loop-test in
-    omega (arith, over-step (loop .inv .2) (loop-test .taken) (c .span-at3 .ensures))
-
-loop-again : tie.Need-loop-again Inv-loop μ-loop Inv-search μ-search
-loop-again c =
-    let loop = c .before .before .before .before .before .loop in
-    let s = c .before .before .before .before .before .before .before .before .before .before .before .before .before .before .before .before in
-    let search = c .before .before .before .before .before .before .before .before .before .before .search in
-    let search-test = c .before .before .before .before .before .before .before .before .before .search-test in
-    let loop-test = c .before .before .before .before .loop-test in
-    (loop .inv .0, loop .inv .1, misses (s .pre) (search .inv .0) (search .inv .1) (search-test .taken) (loop .inv .0) (loop .inv .1) (loop .inv .2) (loop-test .taken) (c .span-at3 .ensures) _ (c .before .before .is-brother .ensures) (⊎-elim (λ w. inr (w .2 .result, w .2 .ensures, w .3 .left)) (λ w. inl (w .left)) (c .before .if2 .came)))
-
-span-at-requires-4 : tie.Need-span-at-requires-4 Inv-loop μ-loop Inv-search μ-search
-span-at-requires-4 c κs =
-    let search = c .before .before .before .before .search in
-    let s = c .before .before .before .before .before .before .before .before .before .before in
-    let search-test = c .before .before .before .search-test in
-    let q : c .if1 .a ≡ search .a = ⊎-elim (λ w. w .4 ∙ w .1 .inv .1) (λ w. w .2) (c .if1 .came) in omega (arith, s .pre .spans, search .inv .1 .ends, search-test .taken)
-
-add-a-2 : tie.Need-add-a-2 Inv-loop μ-loop Inv-search μ-search
-add-a-2 c =
-    let search = c .before .before .before .before .before .search in
-    let s = c .before .before .before .before .before .before .before .before .before .before .before in
-    let search-test = c .before .before .before .before .search-test in
-    let q : c .before .if1 .a ≡ search .a = ⊎-elim (λ w. w .4 ∙ w .1 .inv .1) (λ w. w .2) (c .before .if1 .came) in omega (arith, s .pre .spans, search .inv .1 .ends, over-step (search .inv .1) (search-test .taken) (rw q at (c .span-at4 .ensures)))
-
-search-less-2 : tie.Need-search-less-2 Inv-loop μ-loop Inv-search μ-search
-search-less-2 c =
-    let search = c .before .before .before .before .before .search in
-    let search-test = c .before .before .before .before .search-test in
-    let q : c .before .if1 .a ≡ search .a = ⊎-elim (λ w. w .4 ∙ w .1 .inv .1) (λ w. w .2) (c .before .if1 .came) in omega (arith, over-step (search .inv .1) (search-test .taken) (rw q at (c .span-at4 .ensures)))
-
-search-again-2 : tie.Need-search-again-2 Inv-loop μ-loop Inv-search μ-search
-search-again-2 c =
-    let search = c .before .before .before .before .before .search in
-    let search-test = c .before .before .before .before .search-test in
-    ⊎-elim
-    (λ w. stays-alone (search .inv .0) (search .inv .1) (search-test .taken) (w .3 ∙ w .1 .inv .0) (w .4 ∙ w .1 .inv .1) (c .span-at4 .ensures) (w .1 .inv .2) (w .2 .left))
-    (λ w. stays (search .inv .0) (search .inv .1) (search-test .taken) (w .1) (w .2) (c .span-at4 .ensures) (λ x. absurd (eqb-false _ _ (sym (c .before .before .is-child .ensures) ∙ w .0 .left) x)))
-    (c .before .if1 .came)
-
-same-length : tie.Need-same-length Inv-loop μ-loop Inv-search μ-search
-same-length c = c .before .search .inv .0 .long
-
-returns : tie.Need-returns Inv-loop μ-loop Inv-search μ-search
+returns : tie.Need-returns Inv-loop μ-loop
 returns c =
-    let s = c .before .before .before .before .before .before .before in
-    searched-all (s .pre) (c .before .search .inv .0) (c .before .search .inv .1) (c .search-test .left)
+    let l = c .before .before .before in
+    let s = l .before .before .before .before .before .before .before .before .pre .0 in
+    searched-few s (searched-none _ _ _ _ _) (l .list-children .ensures) (c .if1 .taken)
+
+first-foldable-requires : tie.Need-first-foldable-requires Inv-loop μ-loop
+first-foldable-requires c κs =
+    let l = c .before .before .before .before .before in
+    let s = l .before .before .before .before .before .before .before .before .pre .0 in
+    searchable s (searched-none _ _ _ _ _) (l .list-children .ensures) (omega arith)
+
+loop-holds : tie.Need-loop-holds Inv-loop μ-loop
+loop-holds c = (refl, searched-none _ _ _ _ _, c .before .before .before .before .before .before .list-children .ensures, c .first-foldable .ensures)
+
+take-out-requires : tie.Need-take-out-requires Inv-loop μ-loop
+take-out-requires c κs =
+    let h = c .before .before .before in
+    let v = h .loop .inv in
+    let s = h .before .before .before .before .before .before .before .before .before .before .before .before .before .before .before .pre .0 in
+    (omega (arith, v .2 .room), omega (arith, v .2 .room), listed-inside s (v .1) (v .2) _ (c .before .before .loop-test .taken))
+
+first-foldable-requires-2 : tie.Need-first-foldable-requires-2 Inv-loop μ-loop
+first-foldable-requires-2 c κs =
+    let h = c .before .before .before .before .before .before .before .before .before .before in
+    let v = h .loop .inv in
+    let s = h .before .before .before .before .before .before .before .before .before .before .before .before .before .before .before .pre .0 in
+    let t = c .before .before .before .before .before .before .before .before .before .loop-test .taken in
+    let w = goes s (v .1) (v .2) (v .3) (omega arith) t (c .before .before .before .before .before .before .take-out .ensures) in
+    searchable s (w .0) (w .1) (omega arith)
+
+loop-again : tie.Need-loop-again Inv-loop μ-loop
+loop-again c =
+    let h = c .before .before .before .before .before .before .before .before .before .before .before in
+    let v = h .loop .inv in
+    let s = h .before .before .before .before .before .before .before .before .before .before .before .before .before .before .before .pre .0 in
+    let t = c .before .before .before .before .before .before .before .before .before .before .loop-test .taken in
+    let x = c .before .before .before .before .before .before .before .take-out in
+    let w = goes s (v .1) (v .2) (v .3) (omega arith) t (x .ensures) in
+    (x .kept .1 .0 ∙ v .0, w .0, w .1, goes-on s (v .1) (v .2) (v .3) (omega arith) t (x .ensures) (c .first-foldable2 .ensures))
+
+same-length-4 : tie.Need-same-length-4 Inv-loop μ-loop
+same-length-4 c = c .before .loop .inv .0 ∙ c .before .before .before .before .before .before .before .before .list-children .kept .1 .1 .1 .0
+
+returns-2 : tie.Need-returns-2 Inv-loop μ-loop
+returns-2 c =
+    let v = c .before .loop .inv in
+    let s = c .before .before .before .before .before .before .before .before .before .before .before .before .before .before .before .before .pre .0 in
+    searched-all s (v .1) (v .2) (v .3) (c .loop-test .left)
 
 pub fold-children-spec : {M : Type 1} → statement M
 fold-children-spec =
@@ -200,30 +75,17 @@ fold-children-spec =
     (tie.spec
     Inv-loop
     μ-loop
-    Inv-search
-    μ-search
-    span-at-requires
-    add-end
-    add-a
-    search-holds
-    is-child-requires
-    add-b
+    (λ c κs. search needs)
+    (λ c. search needs)
+    same-length-2
+    returns
+    first-foldable-requires
     loop-holds
-    is-brother-requires
-    folds-onto-requires
-    span-at-requires-2
-    add-next
-    mul-up
-    slice-write-up
-    search-less
-    search-again
-    span-at-requires-3
-    add-b-2
-    loop-less
+    (λ c. search needs)
+    take-out-requires
+    first-foldable-requires-2
+    (λ c. search needs)
     loop-again
-    span-at-requires-4
-    add-a-2
-    search-less-2
-    search-again-2
-    same-length
-    returns)
+    (λ c. search needs)
+    same-length-4
+    returns-2)

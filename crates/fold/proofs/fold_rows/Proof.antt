@@ -1,47 +1,42 @@
 -- From the last row to the first: below each row that was passed, what is left is folded to the end.
 use Prim.Native.Nat.{_+_, _-_}
-use mathlib.Core.Path.{_≡_}
+use mathlib.Core.Path.{_≡_, refl, _∙_}
 use native.Mathlib.Omega.{arith}
+use lib.ListN.{length}
+use borrow.Author.Needs.{needs}
 use Rattle.fold.proofs.Whole.{Settled, settled-none, settled-stands, settled-more, settled-all}
 use Rattle.fold.proofs.fold_rows.Statement.{statement}
 use Rattle.fold.proofs.fold_rows.Tie as tie
 
 abbrev Inv-loop : tie.InvT-loop
-Inv-loop code mark span up₀ n p₀ up p = Settled code mark span up₀ n p up
+Inv-loop code mark span up₀ n child₀ p₀ up child p = (length child ≡ length child₀) × Settled code mark span up₀ n p up
 
 abbrev μ-loop : tie.MeasureT-loop
-μ-loop code mark span up₀ n p₀ up p = p
+μ-loop code mark span up₀ n child₀ p₀ up child p = p
 
 loop-holds : tie.Need-loop-holds Inv-loop μ-loop
-loop-holds c = settled-none _ _ _ _ _
-
-sub-p : tie.Need-sub-p Inv-loop μ-loop
-sub-p c = omega arith
+loop-holds c = (refl, settled-none _ _ _ _ _)
 
 fold-children-requires : tie.Need-fold-children-requires Inv-loop μ-loop
 fold-children-requires c κs =
-    let s = c .before .before .before .before .before .before .before in
-    settled-stands (s .pre) (c .before .before .loop .inv) _ (omega (arith, c .before .before .loop .inv .until, c .before .loop-test .taken))
-
-loop-less : tie.Need-loop-less Inv-loop μ-loop
-loop-less c =
-    let loop-test = c .before .before .before .before .loop-test in
-    omega (arith, loop-test .taken)
+    let s = c .before .before .before .before .before .before .before .before .before in
+    let v = c .before .before .before .loop .inv in
+    (settled-stands (s .pre .0) (v .1) _ (omega (arith, v .1 .until, c .before .before .loop-test .taken)), omega (arith, s .pre .1, v .0))
 
 loop-again : tie.Need-loop-again Inv-loop μ-loop
 loop-again c =
-    let loop = c .before .before .before .before .before .loop in
-    let loop-test = c .before .before .before .before .loop-test in
-    let s = c .before .before .before .before .before .before .before .before .before .before in
-    let e : loop .p ≡ loop .p - 1 + 1 = omega (arith, loop-test .taken) in settled-more (s .pre) (rw e at (loop .inv)) (c .before .before .fold-children .ensures) (c .before .before .fold-children .kept .1 .1 .1 .0)
-
-same-length : tie.Need-same-length Inv-loop μ-loop
-same-length c = c .before .loop .inv .long
+    let h = c .before .before .before .before .before .before .before .before in
+    let v = h .loop .inv in
+    let f = c .before .before .before .before .fold-children in
+    let e : h .loop .p ≡ h .loop .p - 1 + 1 = omega (arith, c .before .before .before .before .before .before .before .loop-test .taken) in
+    let s = h .before .before .before .before .before .before .pre .0 in
+    (f .kept .1 .1 .1 .1 .1 .0 ∙ v .0, settled-more s (rw e at (v .1)) (f .ensures) (f .kept .1 .1 .1 .0))
 
 returns : tie.Need-returns Inv-loop μ-loop
 returns c =
-    let s = c .before .before .before .before .before .before in
-    let e : c .before .loop .p ≡ 0 = omega (arith, c .loop-test .left) in settled-all (s .pre) (rw e at (c .before .loop .inv))
+    let l = c .before .loop in
+    let e : l .p ≡ 0 = omega (arith, c .loop-test .left) in
+    settled-all (c .before .before .before .before .before .before .before .pre .0) (rw e at (l .inv .1))
 
 pub fold-rows-spec : {M : Type 1} → statement M
 fold-rows-spec =
@@ -50,9 +45,10 @@ fold-rows-spec =
     Inv-loop
     μ-loop
     loop-holds
-    sub-p
+    (λ c. search needs)
     fold-children-requires
-    loop-less
+    (λ c. search needs)
     loop-again
-    same-length
+    (λ c. search needs)
+    (λ c. search needs)
     returns)

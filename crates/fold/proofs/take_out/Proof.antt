@@ -1,0 +1,23 @@
+-- The row that goes is the one that was listed at i when the call began.
+use mathlib.Core.Path.{refl}
+use borrow.Author.Needs.{needs}
+use Rattle.fold.proofs.take_out.Statement.{statement}
+use Rattle.fold.proofs.take_out.Tie as tie
+
+returns : tie.Need-returns
+returns c = record { ups = rw (c .before .child-at .ensures); list = refl }
+
+pub take-out-spec : {M : Type 1} → statement M
+take-out-spec =
+    tie.close
+    (tie.spec
+    (λ c κs. search needs)
+    (λ c. search needs)
+    (λ c. search needs)
+    (λ c. search needs)
+    (λ c. search needs)
+    (λ c. search needs)
+    (λ c. search needs)
+    (λ c. search needs)
+    (λ c. search needs)
+    returns)
