@@ -62,7 +62,7 @@ fn put_label(code: &[u32], u: usize, room: &mut [u8], from: usize, at: usize) ->
 }
 
 // "A branch is written as a chain", under one first projection.
-pub fn branch(
+fn branch(
     code: &[u32],
     kids: &[u16],
     span: &[u16],

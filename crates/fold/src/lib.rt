@@ -120,7 +120,7 @@ fn children_fold(code: &[u32], mark: &[u8], span: &[u16], up: &[u16], u: usize, 
 }
 
 // "u's label is a wildcard or equals v's, u's marks are among v's, and every child of u folds onto some child of v"
-pub fn folds_onto(code: &[u32], mark: &[u8], span: &[u16], up: &[u16], u: usize, v: usize) -> bool
+fn folds_onto(code: &[u32], mark: &[u8], span: &[u16], up: &[u16], u: usize, v: usize) -> bool
     requires { ⌜ Stands (now code) (now mark) (now span) (now up) u × Stands (now code) (now mark) (now span) (now up) v ⌝ }
     ensures { λ r. ⌜ r ≡ ontoRow (now (code .entry)) (now (mark .entry)) (now (span .entry)) (now (up .entry)) u v ⌝ }
 {
@@ -142,7 +142,7 @@ fn is_brother(up: &[u16], p: usize, a: usize, b: usize) -> bool
 }
 
 // Each child of row p that folds onto another one goes: the search is left at the first foldable pair and goes on behind the one that went.
-pub fn fold_children(code: &[u32], mark: &[u8], span: &[u16], up: &mut [u16], p: usize)
+fn fold_children(code: &[u32], mark: &[u8], span: &[u16], up: &mut [u16], p: usize)
     requires { ⌜ Stands (now code) (now mark) (now span) (now up) p ⌝ }
     ensures { λ _. ⌜ ChildrenFolded (now (code .entry)) (now (mark .entry)) (now (span .entry)) (now (up .entry)) p (now (up .exit)) ⌝ }
 {
