@@ -51,5 +51,6 @@ pub mod Least
 pub mod Again
 pub mod Bits
 pub mod Pair
+pub mod Once
 pub mod Promise
 pub mod Index
