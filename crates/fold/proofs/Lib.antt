@@ -3,3 +3,4 @@ mod Test
 mod Children
 pub mod Whole
 mod Moved
+pub mod Unique
