@@ -4,6 +4,7 @@ use mathlib.Core.List.{List}
 use mathlib.Core.Bool.{Bool, true, false, not, cond, _&&_}
 use Prim.Native.Nat.{ℕ, zero, suc, _+_, _-_, _*_, _/_, _%_, _^_, _≤_, _<_}
 use native.Mathlib.Omega.{arith}
+use native.Mathlib.Numerals.{add-one}
 use native.Mathlib.Nat.{div-eq-of-lt, one-mul, zero-div}
 use native.Mathlib.Decide.{ℕ-discrete, decLt}
 use lib.ListN.{length, getD, set, length-set}
@@ -13,7 +14,7 @@ use lib.Pow.{pow-lt, pow-add, shl-shr, shl-exact, shr-shr}
 use lib.Bits.{bitAnd, bitOr, and-mask, and-shr, and-mod, or-shr, or-mod, or-zero-r}
 use borrow.Author.Tests.{eq-eqb, ne-eqb, eqb-true, not-true}
 use Rattle.meaning.specs.Matching.{bitAt}
-use Rattle.bits.specs.Bits.{bitOf, BitKept, OnlyRow, BitSet, Sifted, Met, Cleared}
+use Rattle.bits.specs.Bits.{bitOf, allTo, rowClear, BitKept, OnlyRow, BitSet, Sifted, Met, Cleared}
 
 -- ------------------------------------------------------------------ bits of a byte
 -- (n >> ..) & 1
@@ -85,20 +86,17 @@ unfolding bitOf
 zero-bit k = rw (zero-div (2 ^ k))
 
 -- ------------------------------------------------------------------ a byte sifted bit by bit
-abbrev allTo : ℕ → (ℕ → Bool) → Bool
-allTo zero f = true
-allTo (suc n) f = f n && allTo n f
-
 both : (x y : Bool) → (x && y) ≡ true → (x ≡ true) × (y ≡ true)
 both true y e = (refl, e)
 both false y e = let z : _≡_ {A = ℕ} 0 1 = cc in absurd (omega arith)
 
 all-to : (n : ℕ) (f : ℕ → Bool) → allTo n f ≡ true → (k : ℕ) → k < n → f k ≡ true
+unfolding allTo
 all-to zero f e k l = absurd (omega arith)
-all-to (suc n) f e k l = go (ℕ-discrete k n) (λ lower. all-to n f (both (f n) (allTo n f) e .1) k lower)
+all-to (suc n) f e k l = go (ℕ-discrete k n) (λ lower. all-to n f (both (allTo n f) (f n) e .0) k lower)
   where
     go : Dec (k ≡ n) → (k < n → f k ≡ true) → f k ≡ true
-    go (yes q) rest = rw q (both (f n) (allTo n f) e .0)
+    go (yes q) rest = rw q (both (allTo n f) (f n) e .1)
     go (no q) rest = rest (omega arith)
 
 -- bit j of the byte in which bit k alone is clear, for all of them at once
@@ -106,7 +104,7 @@ abbrev masked : ℕ → ℕ → Bool
 masked k j = cond (eqb j k) (not (bitOf (255 - 2 ^ k) j)) (bitOf (255 - 2 ^ k) j)
 
 all-masked : allTo 8 (λ k. allTo 8 (masked k)) ≡ true
-unfolding bitOf
+unfolding allTo bitOf
 all-masked = refl
 
 mask-at : (k j : ℕ) → k < 8 → j < 8 → masked k j ≡ true
@@ -256,21 +254,21 @@ clear-not clear b ne = sym (rw (ne-eqb b 0 ne) (and-false clear))
 pub clear-too : (clear : Bool) (b : ℕ) → b ≡ 0 → clear ≡ (clear && eqb b 0)
 clear-too clear b e = sym (rw (eq-eqb b 0 e) (and-true clear))
 
--- bytes that are 0 as long as `clear` says so, one more of them
-pub more-clear : (w : List ℕ) (u e : ℕ) (clear d : Bool) → (clear ≡ true → (i : ℕ) → i < e → getD w (128 * u + i) 0 ≡ 0) → d ≡ (clear && eqb (getD w (128 * u + e) 0) 0)
-    → d ≡ true → (i : ℕ) → i < e + 1 → getD w (128 * u + i) 0 ≡ 0
-more-clear w u e clear d h q t i l = go (ℕ-discrete i e)
-  where
-    y : (clear ≡ true) × (eqb (getD w (128 * u + e) 0) 0 ≡ true)
-    y = both clear (eqb (getD w (128 * u + e) 0) 0) (sym q ∙ t)
-
-    go : Dec (i ≡ e) → getD w (128 * u + i) 0 ≡ 0
-    go (yes z) = rw z (eqb-true (getD w (128 * u + e) 0) 0 (y .1))
-    go (no z) = h (y .0) i (omega arith)
+-- the first bytes of row u are 0, or not, and one more
+pub more-clear : (w : List ℕ) (u e : ℕ) (clear d : Bool) → clear ≡ allTo e (λ i. eqb (getD w (128 * u + i) 0) 0)
+    → d ≡ (clear && eqb (getD w (128 * u + e) 0) 0) → d ≡ allTo (e + 1) (λ i. eqb (getD w (128 * u + i) 0) 0)
+unfolding allTo
+more-clear w u e clear d h q = rw (add-one e, ← h) q
 
 -- bytes that are 0 have no bits
 pub no-bits : (w : List ℕ) (u e : ℕ) → ((i : ℕ) → i < e → getD w (128 * u + i) 0 ≡ 0) → (v : ℕ) → v < 8 * e → bitAt w u v ≡ false
 no-bits w u e h v l = rw (bit-byte w u v, h (v / 8) (omega arith)) (zero-bit (v % 8))
+
+-- a clear row has none
+pub row-clear : (w : List ℕ) (u : ℕ) → rowClear w u ≡ true → (v : ℕ) → v < 1024 → bitAt w u v ≡ false
+unfolding rowClear
+row-clear w u e v l =
+    no-bits w u 128 (λ i m. eqb-true (getD w (128 * u + i) 0) 0 (all-to 128 (λ j. eqb (getD w (128 * u + j) 0) 0) e i m)) v (omega arith)
 
 pub clear-none : (w : List ℕ) → Cleared w 0 w
 clear-none w = record { same = refl; clear = λ i l. absurd (omega arith); later = λ i l. refl }

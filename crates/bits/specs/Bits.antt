@@ -3,7 +3,7 @@
 use mathlib.Core.Path.{_≡_}
 use mathlib.Core.List.{List}
 use mathlib.Core.Bool.{Bool, true, _&&_}
-use Prim.Native.Nat.{ℕ, _/_, _%_, _^_, _≤_, _<_}
+use Prim.Native.Nat.{ℕ, zero, suc, _+_, _*_, _/_, _%_, _^_, _≤_, _<_}
 use lib.ListN.{length, getD}
 use lib.Dec.{eqb}
 use Rattle.meaning.specs.Matching.{bitAt}
@@ -11,6 +11,15 @@ use Rattle.meaning.specs.Matching.{bitAt}
 -- bit k of a byte, the lowest being 0
 unfoldable pub bitOf : ℕ → ℕ → Bool
 bitOf b k = eqb (b / 2 ^ k % 2) 1
+
+-- each of the numbers below n is so
+unfoldable pub allTo : ℕ → (ℕ → Bool) → Bool
+allTo zero f = true
+allTo (suc n) f = allTo n f && f n
+
+-- row u has no bit set: its 128 bytes are 0
+unfoldable pub rowClear : List ℕ → ℕ → Bool
+rowClear w u = allTo 128 (λ i. eqb (getD w (128 * u + i) 0) 0)
 
 -- r is b, with bit k cleared unless `on` says so
 pub record BitKept (b k : ℕ) (on : Bool) (r : ℕ) : Type 0 where

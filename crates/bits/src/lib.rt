@@ -1,12 +1,12 @@
 // Rows of bits in lent bytes: bit v of row u is "bit v mod 8 of byte 128u + v div 8 (lowest bit is 0)".
 // A match table has 256 such rows, a row of its own has one; both are read and written by the same functions.
 ghost use mathlib.Core.Path.{_≡_};
-ghost use mathlib.Core.Bool.{true, false, _&&_};
+ghost use mathlib.Core.Bool.{_&&_};
 ghost use Prim.Native.Nat.{ℕ, _+_, _*_, _≤_, _<_};
 ghost use lib.ListN.{length, getD};
 ghost use lib.Dec.{eqb};
 ghost use Rattle.meaning.specs.Matching.{bitAt};
-ghost use Rattle.bits.specs.Bits.{bitOf, BitKept, BitSet, Met, Cleared};
+ghost use Rattle.bits.specs.Bits.{bitOf, rowClear, BitKept, BitSet, Met, Cleared};
 
 // The byte with bit k cleared unless `on` says so. Eight of these make a few vector instructions; bits set one by one do not.
 pub fn keep_bit(b: u8, k: usize, on: bool) -> u8
@@ -82,7 +82,7 @@ fn still_clear(clear: bool, b: u8) -> bool
 // Whether row u has no bit set. It reads the whole row: the compiler makes a few vector instructions of it.
 pub fn row_clear(w: &[u8], u: usize) -> bool
     requires { ⌜ (u < 256) × (128 * u + 128 ≤ length (now w)) ⌝ }
-    ensures { λ r. ⌜ (r ≡ true → (v : ℕ) → v < 1024 → bitAt (now (w .entry)) u v ≡ false) ⌝ }
+    ensures { λ r. ⌜ r ≡ rowClear (now (w .entry)) u ⌝ }
 {
     let at = 128 * u;
     let mut clear = true;

@@ -62,14 +62,7 @@ fn put_label(code: &[u32], u: usize, room: &mut [u8], from: usize, at: usize) ->
 }
 
 // "A branch is written as a chain", under one first projection.
-pub fn branch(
-    code: &[u32],
-    kids: &[u16],
-    span: &[u16],
-    u: usize,
-    room: &mut [u8],
-    at: usize,
-) -> usize
+fn branch(code: &[u32], kids: &[u16], span: &[u16], u: usize, room: &mut [u8], at: usize) -> usize
     requires { ⌜ Row (now code) (now kids) (now span) u × (at + length (wordOf (branchOf (chainAt (now code) (now span) u))) ≤ length (now room)) ⌝ }
     ensures { λ r. ⌜ Written (now (room .entry)) at (wordOf (branchOf (chainAt (now (code .entry)) (now (span .entry)) u))) (now (room .exit)) r ⌝ }
 {

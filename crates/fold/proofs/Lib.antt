@@ -4,3 +4,4 @@ mod Listing
 mod Children
 pub mod Whole
 mod Moved
+pub mod Unique

@@ -15,7 +15,6 @@ use borrow.Author.Tests.{eq-eqb, ne-eqb}
 use Rattle.meaning.specs.Tree.{Forest, bare, tree, size}
 use Rattle.rows.specs.Rows.{tagAt, shape, mapT, treeRows, Holds, width, Counted, Hung, noRow, Rows}
 use Rattle.rows.proofs.Rows.{size-mapT, width-mapT, size-holds, holds-is, row-opens, rows-top, row-up}
-use Rattle.order.proofs.RowsTable.{rows-tree, rows-table, rows-first}
 use Rattle.fold.specs.Kept.{goneRow, kept, left, keptTree, Remains, parentMoved, Movable, RowMoved, RowsKept}
 use Rattle.fold.proofs.Brothers.{kept-bare, kept-here, kept-away}
 
@@ -429,15 +428,5 @@ module _ {code₀ mark₀ span up : List ℕ} {n : ℕ} (R : Remains code₀ mar
   unfolding treeRows left
   tree-is = ap (mapT (tagAt code mark)) shape-is ∙ tags-moved code₀ mark₀ up code mark parent moved i 0 F spread
 
-  size-left : size F ≡ size (keptTree code₀ mark₀ span up n)
-  unfolding left
-  size-left = sym (size-mapT (tagAt code₀ mark₀) F)
-
   pub moving-all : RowsKept code₀ mark₀ span up n code mark parent j
-  moving-all =
-      record {
-        table = rows-table code mark counts spans parent j moved-rows;
-        first = rows-first code mark counts spans parent j moved-rows;
-        same = rows-tree code mark counts spans parent j moved-rows ∙ tree-is;
-        count = sym size-is ∙ size-left;
-      }
+  moving-all = record { kids = counts; spans = spans; rows = moved-rows; tree = tree-is }

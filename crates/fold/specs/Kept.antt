@@ -9,11 +9,10 @@ use native.Mathlib.Decide.{ℕ-discrete}
 use lib.ListN.{length, getD, set}
 use lib.Dec.{ltb, eqb}
 use Rattle.meaning.specs.Basics.{is, decBoth}
-use Rattle.meaning.specs.Tree.{Forest, bare, tree, Tag, Any, size}
+use Rattle.meaning.specs.Tree.{Forest, bare, tree, Tag, Any}
 use Rattle.meaning.specs.Folding.{Folds, Onto, decMark, decTag, decFolds, decOnto, minimal}
 use Rattle.meaning.specs.Image.{ordered}
 use Rattle.rows.specs.Rows.{tagAt, below, shape, mapT, treeRows, Holds, Hung, width, noRow, Rows}
-use Rattle.order.specs.Table.{tableTree, TreeTable, ParentsFirst}
 
 -- ------------------------------------------------------------------ what is still there
 -- the number that a row's parent number becomes when the row goes: no row has it, and it is not `noRow`
@@ -197,9 +196,9 @@ pub record RowMoved (code mark up : List ℕ) (i : ℕ) (parent moved : List ℕ
   pub parents : parent′ ≡ set parent j (parentMoved up moved i)
   pub moves : moved′ ≡ set moved i j
 
--- the first r rows are the table of the tree that was left, parents before their children
+-- the first r rows are those of the tree that was left, in image order; their spans and numbers of children are written nowhere
 pub record RowsKept (code mark span up : List ℕ) (n : ℕ) (code′ mark′ parent : List ℕ) (r : ℕ) : Type 0 where
-  pub table : TreeTable parent code′ mark′ r
-  pub first : ParentsFirst parent r
-  pub same : tableTree parent code′ mark′ r ≡ keptTree code mark span up n
-  pub count : r ≡ size (keptTree code mark span up n)
+  pub kids : List ℕ
+  pub spans : List ℕ
+  pub rows : Rows code′ mark′ kids spans parent r
+  pub tree : treeRows code′ mark′ spans r ≡ keptTree code mark span up n

@@ -119,7 +119,7 @@ fn children_fold(code: &[u32], mark: &[u8], span: &[u16], up: &[u16], u: usize, 
 }
 
 // "u's label is a wildcard or equals v's, u's marks are among v's, and every child of u folds onto some child of v"
-pub fn folds_onto(code: &[u32], mark: &[u8], span: &[u16], up: &[u16], u: usize, v: usize) -> bool
+fn folds_onto(code: &[u32], mark: &[u8], span: &[u16], up: &[u16], u: usize, v: usize) -> bool
     requires { ⌜ Stands (now code) (now mark) (now span) (now up) u × Stands (now code) (now mark) (now span) (now up) v ⌝ }
     ensures { λ r. ⌜ r ≡ ontoRow (now (code .entry)) (now (mark .entry)) (now (span .entry)) (now (up .entry)) u v ⌝ }
 {
@@ -195,7 +195,7 @@ fn take_out(up: &mut [u16], child: &mut [u16], i: usize, k: usize)
 }
 
 // Each child of row p that folds onto another one goes. Behind it the search goes on from its place: what did not fold before does not fold now.
-pub fn fold_children(
+fn fold_children(
     code: &[u32],
     mark: &[u8],
     span: &[u16],

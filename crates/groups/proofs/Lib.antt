@@ -1,3 +1,4 @@
 pub mod Put
 pub mod Number
 pub mod Lent
+pub mod Unique

@@ -2,15 +2,14 @@
 -- records in ascending byte order": where the brothers stand in that order, the records are one pass over the nodes in image order.
 use mathlib.Core.Path.{_≡_, refl, sym, ap, _∙_}
 use mathlib.Core.List.{List, [], _∷_, _++_, map, append-assoc}
-use Prim.Native.Nat.{ℕ, zero, suc, _+_, _%_, _<_, _≤_}
+use Prim.Native.Nat.{ℕ, zero, suc, _+_, _<_, _≤_}
 use native.Mathlib.Omega.{arith}
 use lib.ListN.{length, getD}
-use lib.Dec.{ltb, eqb}
 use Rattle.meaning.specs.Tree.{Forest, bare, tree, Tag, size, preorder}
 use Rattle.meaning.specs.Image.{labCode, markCode, flat, records, image, ordered}
 use Rattle.theory.proofs.Records.{Sorted, sorted-ordered, image-ordered}
-use Rattle.rows.specs.Rows.{labOf, tagAt, shape, mapT, treeRows, Holds, width, Counted, Rows}
-use Rattle.rows.proofs.Rows.{size-mapT, width-mapT, size-holds}
+use Rattle.rows.specs.Rows.{tagAt, shape, mapT, treeRows, Holds, width, Counted, Rows}
+use Rattle.rows.proofs.Rows.{lab-code, mark-code, size-mapT, width-mapT, size-holds}
 use Rattle.image.specs.Listing.{head, rowsFrom, listing}
 
 -- ------------------------------------------------------------------ records in image order
@@ -34,17 +33,6 @@ flat-records (tree a k r) (e, sk, sr) =
     ap flat e ∙ rw (length-records k sk, flat-records k sk, flat-records r sr, flat-append entry (preorder k) (preorder r)) (simp append-assoc)
 
 -- ------------------------------------------------------------------ rows
-code-of-lab : (c : ℕ) → labCode (labOf c) ≡ c
-code-of-lab zero = refl
-code-of-lab (suc l) = refl
-
-code-of-mark : (m : ℕ) → m ≤ 3 → markCode (eqb (m % 2) 1) (ltb 1 m) ≡ m
-code-of-mark zero l = refl
-code-of-mark (suc zero) l = refl
-code-of-mark (suc (suc zero)) l = refl
-code-of-mark (suc (suc (suc zero))) l = refl
-code-of-mark (suc (suc (suc (suc m)))) l = absurd (omega arith)
-
 module _ (code mark kids : List ℕ) where
   rows-append : (j k u : ℕ) → rowsFrom code mark kids (j + k) u ≡ rowsFrom code mark kids j u ++ rowsFrom code mark kids k (u + j)
   unfolding rowsFrom
@@ -56,7 +44,7 @@ module _ (code mark kids : List ℕ) where
 
   row-entry : (u : ℕ) (k : Forest ℕ) → getD mark u 0 ≤ 3 → getD kids u 0 ≡ width k
       → entry (tagAt code mark u, mapT (tagAt code mark) k) ≡ head (getD code u 0) (getD mark u 0) (getD kids u 0)
-  row-entry u k l e = rw (code-of-lab (getD code u 0), code-of-mark (getD mark u 0) l, width-mapT (tagAt code mark) k, e)
+  row-entry u k l e = rw (lab-code (getD code u 0), mark-code (getD mark u 0) l, width-mapT (tagAt code mark) k, e)
 
   -- rows that are laid out as a forest list its nodes
   rows-listed : (span : List ℕ) (n u e : ℕ) (F : Forest ℕ) → ((v : ℕ) → v < n → getD mark v 0 ≤ 3) → e ≤ n

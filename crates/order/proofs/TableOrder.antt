@@ -3,16 +3,16 @@ use mathlib.Core.Path.{_≡_, refl, sym, ap, _∙_}
 use mathlib.Core.Logic.{_⊎_, inl, inr}
 use mathlib.Core.List.{List, [], _∷_}
 use mathlib.Core.Bool.{cond}
-use Prim.Native.Nat.{ℕ, zero, suc, _+_, _-_, _%_, _<_, _≤_}
+use Prim.Native.Nat.{ℕ, zero, suc, _+_, _-_, _<_, _≤_}
 use native.Mathlib.Omega.{arith}
 use native.Mathlib.Decide.{ℕ-discrete, decLt}
 use lib.ListN.{length, getD}
-use lib.Dec.{ltb, eqb}
+use lib.Dec.{eqb}
 use borrow.Author.Tests.{eq-eqb, ne-eqb}
 use Rattle.meaning.specs.Tree.{Forest, bare, tree, size, plant}
-use Rattle.meaning.specs.Image.{labCode, markCode, ordered}
-use Rattle.rows.specs.Rows.{labOf, tagAt, shape, mapT, treeRows, Holds, width, Counted, noRow, Rows}
-use Rattle.rows.proofs.Rows.{holds-is}
+use Rattle.meaning.specs.Image.{ordered}
+use Rattle.rows.specs.Rows.{tagAt, shape, mapT, treeRows, Holds, width, Counted, noRow, Rows}
+use Rattle.rows.proofs.Rows.{lab-code, mark-code, holds-is}
 use Rattle.order.specs.Table.{childrenOf, grown, tableShape, tableTree, TreeTable}
 use Rattle.order.specs.Gathering.{Counts}
 use Rattle.order.specs.Keys.{Keys}
@@ -23,18 +23,6 @@ use Rattle.order.proofs.Records.{Keyed, ordered-by}
 use Rattle.order.proofs.Growing.{Children, all-children, children-few, Levels, level-le, size-grown}
 use Rattle.order.proofs.Gathering.{slot-row}
 use Rattle.order.proofs.LaidOut.{numbered, width-numbered, holds-shown, hung-shown, counted-shown, tags-shown}
-
--- ------------------------------------------------------------------ what a code and a mark stand for
-lab-code : (c : ℕ) → labCode (labOf c) ≡ c
-lab-code zero = refl
-lab-code (suc l) = refl
-
-mark-code : (m : ℕ) → m ≤ 3 → markCode (eqb (m % 2) 1) (ltb 1 m) ≡ m
-mark-code zero h = refl
-mark-code (suc zero) h = refl
-mark-code (suc (suc zero)) h = refl
-mark-code (suc (suc (suc zero))) h = refl
-mark-code (suc (suc (suc (suc m)))) h = absurd (omega arith)
 
 -- ------------------------------------------------------------------ numbers of children
 width-plant : (g : ℕ → Forest ℕ) (js : List ℕ) → width (plant (λ j. j) g js) ≡ length js

@@ -130,7 +130,7 @@ fn key_at(t: &[u64], i: usize) -> u64
 // ---------------------------------------------------------------- brothers in ascending byte order
 
 // How one record, or one list of records, stands to another in byte order.
-pub enum Order {
+enum Order {
     Before,
     Same,
     After,

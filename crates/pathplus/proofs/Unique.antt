@@ -8,7 +8,8 @@ use native.Mathlib.Omega.{arith}
 use Rattle.meaning.specs.TreeQuery.{Query}
 use Rattle.meaning.specs.Word.{Outcome, refused, answered}
 use Rattle.meaning.specs.Promise.{Writes, Question, Selected, PlainImage, MinimalImage, NormalForm}
-use Rattle.theory.proofs.Promise.{Bytes, one-writing, one-reply}
+use Rattle.theory.proofs.Once.{Bytes}
+use Rattle.theory.proofs.Promise.{one-writing, one-reply}
 use Rattle.pathplus.specs.declared.Written.{Written}
 use Rattle.pathplus.specs.declared.Written.the-variants as Written
 use Rattle.pathplus.specs.declared.Told.{Told}

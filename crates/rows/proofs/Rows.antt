@@ -4,14 +4,28 @@ use mathlib.Core.Path.{_≡_, refl, ap, _∙_}
 use mathlib.Core.Logic.{_⊎_, inl, inr}
 use mathlib.Core.Option.{none, some}
 use mathlib.Core.List.{List, [], _∷_, _++_}
-use Prim.Native.Nat.{ℕ, zero, suc, _+_, _-_, _<_, _≤_}
+use Prim.Native.Nat.{ℕ, zero, suc, _+_, _-_, _%_, _<_, _≤_}
 use native.Mathlib.Omega.{arith}
 use native.Mathlib.Decide.{ℕ-discrete, decLt}
 use lib.ListN.{length, getD, length-append}
+use lib.Dec.{ltb, eqb}
 use borrow.Author.Tests.{lt-ltb, le-ltb}
 use Rattle.meaning.specs.Basics.{look}
 use Rattle.meaning.specs.Tree.{Forest, bare, tree, size, preorder}
-use Rattle.rows.specs.Rows.{tagAt, brothers, below, shape, mapT, treeRows, Holds, width, Counted, Hung, noRow, Rows}
+use Rattle.meaning.specs.Image.{labCode, markCode}
+use Rattle.rows.specs.Rows.{labOf, tagAt, brothers, below, shape, mapT, treeRows, Holds, width, Counted, Hung, noRow, Rows}
+
+-- ------------------------------------------------------------------ what a code and a mark stand for
+pub lab-code : (c : ℕ) → labCode (labOf c) ≡ c
+lab-code zero = refl
+lab-code (suc l) = refl
+
+pub mark-code : (m : ℕ) → m ≤ 3 → markCode (eqb (m % 2) 1) (ltb 1 m) ≡ m
+mark-code zero h = refl
+mark-code (suc zero) h = refl
+mark-code (suc (suc zero)) h = refl
+mark-code (suc (suc (suc zero))) h = refl
+mark-code (suc (suc (suc (suc m)))) h = absurd (omega arith)
 
 -- ------------------------------------------------------------------ renaming
 pub size-mapT : {A B : Type 0} (f : A → B) (F : Forest A) → size (mapT f F) ≡ size F

@@ -29,6 +29,7 @@ use Rattle.theory.proofs.Removal as Removal
 use Rattle.theory.proofs.Tables.{tableOf}
 use Rattle.theory.proofs.Bits as Bits
 use Rattle.theory.proofs.Pair as Pair
+use Rattle.theory.proofs.Once.{Bytes}
 use Rattle.theory.proofs.Promise as Promise
 use Rattle.theory.proofs.Idle as Idle
 
@@ -175,7 +176,7 @@ pub one-writing : (form : Option Query → List ℕ) (word room : List ℕ) (r r
     → Writes form word room r a → Writes form word room r′ a′ → (r ≡ r′) × (a ≡ a′)
 one-writing = Promise.one-writing
 
-pub one-reply : (q : Question) (r r′ : Outcome Bool) (a a′ : List ℕ) → Promise.Bytes a → Promise.Bytes a′
+pub one-reply : (q : Question) (r r′ : Outcome Bool) (a a′ : List ℕ) → Bytes a → Bytes a′
     → Selected q r a → Selected q r′ a′ → (r ≡ r′) × (a ≡ a′)
 one-reply = Promise.one-reply
 

@@ -51,6 +51,7 @@ pub mod Least
 pub mod Again
 pub mod Bits
 pub mod Pair
+pub mod Once
 pub mod Promise
 pub mod Idle
 pub mod Index

@@ -18,5 +18,5 @@ module _ (word code mark kids span up : List ℕ) (n : ℕ) (B : BuiltRows word 
       → Rows code″ mark″ kids″ span″ up″ m → treeRows code″ mark″ span″ m ≡ ordered (tableTree parent code′ mark′ m) → MinimalRows word code″ mark″ kids″ span″ up″ m
   minimal-rows up′ code′ mark′ parent m f k rows t = record {
     rows = rows;
-    tree = λ e r. t ∙ ap ordered (k .same) ∙ f .least ∙ ap (λ x. ordered (minimal x)) (B .tree e r);
+    tree = λ e r. t ∙ ap ordered (rows-tree code′ mark′ (k .kids) (k .spans) parent m (k .rows) ∙ k .tree) ∙ f .least ∙ ap (λ x. ordered (minimal x)) (B .tree e r);
   }

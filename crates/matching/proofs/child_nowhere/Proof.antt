@@ -1,7 +1,8 @@
 -- Row u is needed by its children from c on, and none before c is clear.
-use mathlib.Core.Path.{_≡_}
+use mathlib.Core.Path.{_≡_, sym, _∙_}
 use Prim.Native.Nat.{ℕ, _-_, _≤_, _<_}
 use native.Mathlib.Omega.{arith}
+use Rattle.bits.proofs.Bits.{row-clear}
 use Rattle.rows.proofs.Rows.{row-opens}
 use Rattle.matching.proofs.Filling.{Children, children-start, child-span, child-next, child-needed}
 use Rattle.matching.proofs.child_nowhere.Statement.{statement}
@@ -29,7 +30,7 @@ row-clear-requires : tie.Need-row-clear-requires Inv-loop μ-loop
 row-clear-requires c κs = (omega (arith, c .before .before .before .before .before .pre .1, c .before .loop .inv .1, c .loop-test .taken), omega (arith, c .before .before .before .before .before .pre .0, c .before .before .before .before .before .pre .1, c .before .loop .inv .1, c .loop-test .taken))
 
 returns : tie.Need-returns Inv-loop μ-loop
-returns c = λ e. (_, c .before .before .before .loop .inv .0, omega (arith, c .before .before .before .loop .inv .1, c .before .before .loop-test .taken), child-needed _ _ _ _ (c .before .before .loop-test .taken) (c .before .before .before .loop .inv .2), c .before .row-clear .ensures (c .if1 .taken))
+returns c = λ e. (_, c .before .before .before .loop .inv .0, omega (arith, c .before .before .before .loop .inv .1, c .before .before .loop-test .taken), child-needed _ _ _ _ (c .before .before .loop-test .taken) (c .before .before .before .loop .inv .2), row-clear _ _ (sym (c .before .row-clear .ensures) ∙ c .if1 .taken))
 
 link-at-requires-2 : tie.Need-link-at-requires-2 Inv-loop μ-loop
 link-at-requires-2 c κs = omega (arith, c .before .before .before .before .before .before .before .pre .2, c .before .before .before .loop .inv .1, c .before .before .loop-test .taken)

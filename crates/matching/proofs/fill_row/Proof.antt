@@ -1,9 +1,9 @@
 -- What is left of row u, and the children from c on, say where u can be laid.
-use mathlib.Core.Path.{_∙_}
+use mathlib.Core.Path.{sym, _∙_}
 use Prim.Native.Nat.{_+_, _-_, _≤_, _<_}
 use native.Mathlib.Omega.{arith}
 use Rattle.bits.specs.Bits.{OnlyRow}
-use Rattle.bits.proofs.Bits.{only-refl, only-then}
+use Rattle.bits.proofs.Bits.{only-refl, only-then, row-clear}
 use Rattle.rows.proofs.Rows.{row-opens}
 use Rattle.matching.specs.Table.{RowInside, RowsFrom}
 use Rattle.matching.proofs.Tables.{good-table, good-parents}
@@ -55,7 +55,7 @@ same-length : tie.Need-same-length Inv-loop μ-loop
 same-length c = c .before .before .before .before .loop .inv .2 .same ∙ c .before .before .before .before .before .before .before .before .label-row .ensures .only .same
 
 returns : tie.Need-returns Inv-loop μ-loop
-returns c = record { only = only-then _ _ _ _ (c .before .before .before .before .before .before .before .before .label-row .ensures .only) (c .before .before .before .before .loop .inv .2); bits = partly-clear _ _ _ _ (c .before .before .before .before .before .before .before .before .before .before .before .before .before .before .before .before .pre .table) _ _ _ _ (c .before .row-clear .ensures (c .if1 .taken)) (c .before .before .before .before .loop .inv .4) }
+returns c = record { only = only-then _ _ _ _ (c .before .before .before .before .before .before .before .before .label-row .ensures .only) (c .before .before .before .before .loop .inv .2); bits = partly-clear _ _ _ _ (c .before .before .before .before .before .before .before .before .before .before .before .before .before .before .before .before .pre .table) _ _ _ _ (row-clear _ _ (sym (c .before .row-clear .ensures) ∙ c .if1 .taken)) (c .before .before .before .before .loop .inv .4) }
 
 keep-parents-requires : tie.Need-keep-parents-requires Inv-loop μ-loop
 keep-parents-requires c κs =

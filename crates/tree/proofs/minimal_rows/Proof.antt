@@ -1,5 +1,6 @@
 use mathlib.Core.Path.{_∙_}
 use native.Mathlib.Omega.{arith}
+use Rattle.order.proofs.RowsTable.{rows-table, rows-first}
 use Rattle.fold.proofs.Whole.{folded-remains}
 use Rattle.tree.proofs.Minimal.{minimal-rows}
 use borrow.Author.Needs.{needs}
@@ -43,10 +44,10 @@ image-rows-requires c κs =
     let f = c .before .before .before .before .before .before .before .before .before .before .before .before .before .before .before .before .before .before .before .before .before .before .before .before .before .before .before .fold-rows .kept in
     let k = c .before .before .before .before .before .before .before .before .before .before .before .before .before .before .before .before .before .keep-rows in
     let p = c .before .before .before .before .before .before .before .before .before .before .before .before .before .before .before .before .before .before .before .before .before .before .before .before .before .before .before .before .before .before .before .before .before .before .before .before .before .before .before .before .before .before .before .before .before .before .before .before .before .before .before .before .before .before .before .before .before .before .before .before .before .pre in (
-      k .ensures .table,
-      omega (arith, k .ensures .table .few, b .1 .0, b .1 .1 .0, b .1 .1 .1 .0, b .1 .1 .1 .1 .0, k .kept .1 .1 .1 .1 .1 .1 .0, b .1 .1 .1 .1 .1 .1 .1 .0, b .1 .1 .1 .1 .1 .1 .1 .1 .0, b .1 .1 .1 .1 .1 .1 .1 .1 .1 .0, f .1 .1 .1 .0, p .1 .codes, p .1 .marks, p .1 .counts, p .1 .spans, p .1 .ups),
+      rows-table _ _ _ _ _ _ (k .ensures .rows),
+      omega (arith, k .ensures .rows .few, b .1 .0, b .1 .1 .0, b .1 .1 .1 .0, b .1 .1 .1 .1 .0, k .kept .1 .1 .1 .1 .1 .1 .0, b .1 .1 .1 .1 .1 .1 .1 .0, b .1 .1 .1 .1 .1 .1 .1 .1 .0, b .1 .1 .1 .1 .1 .1 .1 .1 .1 .0, f .1 .1 .1 .0, p .1 .codes, p .1 .marks, p .1 .counts, p .1 .spans, p .1 .ups),
       omega (arith, b .1 .1 .0),
-      k .ensures .first,
+      rows-first _ _ _ _ _ _ (k .ensures .rows),
     )
 
 -- src/lib.rt:116:1
