@@ -207,10 +207,6 @@ fn fold_children(
     ensures { λ _. ⌜ ChildrenFolded (now (code .entry)) (now (mark .entry)) (now (span .entry)) (now (up .entry)) p (now (up .exit)) ⌝ }
 {
     let mut k = list_children(span, up, p, child);
-    // most rows have one child or none
-    if k < 2 {
-        return;
-    }
     let mut i = first_foldable(code, mark, span, up, child, 0, k);
     while i < k {
         k -= 1;
