@@ -18,6 +18,7 @@ use Rattle.meaning.specs.Normal.{eitherIn, normalOf, normalForm}
 use Rattle.meaning.specs.Word.{Outcome, answered, readWord}
 use Rattle.meaning.specs.Matching.{LaysAt}
 use Rattle.meaning.specs.Promise.{Writes, Question, Selected}
+use Rattle.meaning.specs.Program.{programText}
 use Rattle.theory.proofs.Cases as Cases
 use Rattle.theory.proofs.Document as Documents
 use Rattle.theory.proofs.Same as Same
@@ -30,6 +31,7 @@ use Rattle.theory.proofs.Tables.{tableOf}
 use Rattle.theory.proofs.Bits as Bits
 use Rattle.theory.proofs.Pair as Pair
 use Rattle.theory.proofs.Promise as Promise
+use Rattle.theory.proofs.Program as Program
 
 -- ------------------------------------------------------------------ documents and worked cases
 -- "On every finite labelled tree": each tree, built from a label and the trees below it, has a document table with its nodes, labels and children.
@@ -136,3 +138,8 @@ one-writing = Promise.one-writing
 pub one-reply : (q : Question) (r r′ : Outcome Bool) (a a′ : List ℕ) → Promise.Bytes a → Promise.Bytes a′
     → Selected q r a → Selected q r′ a′ → (r ≡ r′) × (a ≡ a′)
 one-reply = Promise.one-reply
+
+-- ------------------------------------------------------------------ the program
+-- "three lines, each a name, a blank and lower-case hex", or "one line, `refused N P`": never more than this
+pub program-text-short : (word : List ℕ) → length (programText word) ≤ 10272
+program-text-short = Program.program-text-short

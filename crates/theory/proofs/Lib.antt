@@ -52,4 +52,5 @@ pub mod Again
 pub mod Bits
 pub mod Pair
 pub mod Promise
+pub mod Program
 pub mod Index
