@@ -21,7 +21,7 @@ unfolding hex
 length-hex [] = refl
 length-hex (b ∷ bs) = omega (arith, length-hex bs)
 
-length-line : (name bytes : List ℕ) → length (line name bytes) ≡ length name + 2 * length bytes + 2
+pub length-line : (name bytes : List ℕ) → length (line name bytes) ≡ length name + 2 * length bytes + 2
 unfolding line
 length-line name bytes = omega (arith, length-append name (32 ∷ (hex bytes ++ (10 ∷ []))), length-append (hex bytes) (10 ∷ []), length-hex bytes)
 
@@ -35,16 +35,9 @@ decimal-short (suc f) n = go (ltb n 10) (decimal-short f (n / 10))
     go true ih = omega arith
     go false ih = omega (arith, length-append (decimalF f (n / 10)) ((48 + n % 10) ∷ []))
 
-refusal-short : (n p : ℕ) → n ≤ 6 → p ≤ 4096 → length (refusalLine n p) ≤ 10272
+pub length-refusal : (n p : ℕ) → length (refusalLine n p) ≡ length (decimal n) + length (decimal p) + 10
 unfolding refusalLine
-refusal-short n p ln lp =
-    omega (
-      arith,
-      length-append (decimal n) (32 ∷ (decimal p ++ (10 ∷ []))),
-      length-append (decimal p) (10 ∷ []),
-      decimal-short (suc n) n,
-      decimal-short (suc p) p,
-    )
+length-refusal n p = omega (arith, length-append (decimal n) (32 ∷ (decimal p ++ (10 ∷ []))), length-append (decimal p) (10 ∷ []))
 
 -- ------------------------------------------------------------------ the whole text
 pub program-text-short : (word : List ℕ) → length (programText word) ≤ 10272
@@ -52,7 +45,7 @@ unfolding programText
 program-text-short word = go (readWord word) refl (small-word word)
   where
     go : (o : Outcome Expr) → readWord word ≡ o → Small 6 4096 o → length (reported o) ≤ 10272
-    go (refused n p) r (ln, lp) = refusal-short n p ln lp
+    go (refused n p) r (ln, lp) = omega (arith, length-refusal n p, decimal-short (suc n) n, decimal-short (suc p) p)
     go (answered e) r s =
         let (lp, lm) = images-short word e r in
         let Q = plain e in
