@@ -13,7 +13,8 @@ use Rattle.meaning.specs.Expression.{Expr, empty, self, child, parent, label, c
 use Rattle.meaning.specs.Number.{numF, num}
 use Rattle.meaning.specs.Normal.{joined, all, wordOf}
 use Rattle.groups.specs.Put.{put, Written}
-use Rattle.groups.proofs.Put.{length-put, put-nil, put-append}
+use Rattle.groups.proofs.Put.{put-nil, put-append}
+pub use Rattle.groups.proofs.Put.{written-nil, written-is, written-then, written-length, written-reached}
 use Rattle.branches.specs.Joining.{joint, run, fill, factor}
 
 -- ------------------------------------------------------------------ words and their bytes
@@ -87,26 +88,6 @@ joint-some from at l = rw (lt-ltb from at l)
 
 pub joint-none : (from at : ℕ) → at ≤ from → joint (ltb from at) ≡ []
 joint-none from at l = rw (le-ltb from at l)
-
-pub written-nil : (d : List ℕ) (at : ℕ) → Written d at [] d at
-written-nil d at = record { place = omega arith; bytes = sym (put-nil d at) }
-
-pub written-is : {d bs bs′ e : List ℕ} {at r : ℕ} → bs ≡ bs′ → Written d at bs e r → Written d at bs′ e r
-written-is q w = rw q at w
-
--- two writings, one after the other
-pub written-then : {d xs d₁ ys d₂ : List ℕ} {at a r : ℕ} → Written d at xs d₁ a → Written d₁ a ys d₂ r → Written d at (xs ++ ys) d₂ r
-written-then {d} {xs} {d₁} {ys} {d₂} {at} {a} {r} v w =
-    record {
-      place = omega (arith, v .place, w .place, length-append xs ys);
-      bytes = w .bytes ∙ rw (v .bytes, v .place) (sym (put-append d at xs ys));
-    }
-
-pub written-length : {d bs e : List ℕ} {at r : ℕ} → Written d at bs e r → length e ≡ length d
-written-length {d} {bs} {e} {at} w = ap length (w .bytes) ∙ length-put d at bs
-
-pub written-reached : {d bs e : List ℕ} {from at r : ℕ} → from ≤ at → Written d at bs e r → from ≤ r
-written-reached {from = from} {at = at} {r = r} l w = omega (arith, w .place)
 
 -- a factor, and then the sign that joins it
 module _ (from at : ℕ) (bs : List ℕ) where

@@ -1,4 +1,3 @@
 pub mod Put
 pub mod Number
 pub mod Lent
-pub mod Unique

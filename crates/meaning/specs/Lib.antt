@@ -12,3 +12,4 @@ pub mod Normal
 pub mod Word
 pub mod Matching
 pub mod Promise
+pub mod Program

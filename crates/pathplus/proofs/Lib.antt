@@ -1,6 +1,6 @@
 pub mod Writing
 mod Asking
 mod Numbers
-mod OfRows
+pub mod OfRows
 mod Pairs
 pub mod Unique

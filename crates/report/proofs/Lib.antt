@@ -1,1 +1,3 @@
-pub mod Fits
+mod Text
+mod Forms
+pub mod Unique

@@ -1,14 +1,24 @@
-// What the program writes for one word: "three lines, each a name, a blank and lower-case hex: plain image, minimal image, normal form";
-// "a refusal is one line, `refused N P`, number and place in decimal". Also the three writers of the public calls as one call.
-use libc::STDOUT_FILENO;
-use pathplus::Written;
-ghost use Prim.Native.Nat.{_+_, _*_, _≤_, _<_};
+// What the program writes for one word, put together in a lent buffer: "three lines, each a name, a blank and lower-case hex: plain image, minimal
+// image, normal form"; "A refusal is one line, `refused N P`, number and place in decimal." Also the three writers of the public calls as one call.
+use groups::put_byte;
+use word::whole::Checked;
+use word::whole::check_word;
+ghost use mathlib.Core.Path.{_≡_};
+ghost use mathlib.Core.List.{[], _∷_};
+ghost use Prim.Native.Nat.{_+_, _≤_, _<_};
 ghost use lib.ListN.{length};
-ghost use Rattle.io.specs.Counts.{Counts};
-ghost use Rattle.report.specs.Fits.{Fits};
+ghost use Rattle.meaning.specs.Promise.{Writes};
+ghost use Rattle.meaning.specs.Program.{hexDigit, hex, decimal, line, refusalLine, programText};
+ghost use Rattle.groups.specs.Put.{Written};
+ghost use Rattle.tree.specs.Trees.{Accepted};
+ghost use Rattle.pathplus.specs.Answer.{writtenOf};
+ghost use Rattle.report.specs.Form.{formOf, formBytes};
 
 // No image and no normal form has more bytes.
 const LONGEST: usize = 2048;
+
+// No text has more bytes: two images of 1,538 and a normal form of 2,048, two digits each, and their names, blanks and line feeds.
+pub const LONGEST_TEXT: usize = 10272;
 
 // What is written of a word.
 pub enum Form {
@@ -18,8 +28,8 @@ pub enum Form {
 }
 
 // The public call that writes the form.
-pub fn written(form: Form, word: &[u8], room: &mut [u8]) -> Written
-    ensures { λ r. ⌜ Fits r (length (now (room .entry))) ⌝ }
+pub fn written(form: Form, word: &[u8], room: &mut [u8]) -> pathplus::Written
+    ensures { λ r. ⌜ Writes (formOf form) (now (word .entry)) (now (room .entry)) (writtenOf r) (now (room .exit)) ⌝ }
 {
     match form {
         Form::Plain => pathplus::plain_image(word, room),
@@ -28,77 +38,113 @@ pub fn written(form: Form, word: &[u8], room: &mut [u8]) -> Written
     }
 }
 
-// A number below 16 as a lower-case hex digit.
+// ---------------------------------------------------------------- characters, from a place of the text on; the answer is the place behind them
+
+// "lower-case hex": the digit of a number below 16.
 fn digit(n: u8) -> u8
     requires { ⌜ n < 16 ⌝ }
+    ensures { λ r. ⌜ r ≡ hexDigit n ⌝ }
 {
-    if n < 10 { 48 + n } else { 87 + n }
+    if n < 10 { b'0' + n } else { b'a' + (n - 10) }
 }
 
-fn put(text: &mut [u8], at: usize, b: u8)
-    requires { ⌜ at < length (now text) ⌝ }
+fn put_bytes(bytes: &[u8], text: &mut [u8], at: usize) -> usize
+    requires { ⌜ at + length (now bytes) ≤ length (now text) ⌝ }
+    ensures { λ r. ⌜ Written (now (text .entry)) at (now (bytes .entry)) (now (text .exit)) r ⌝ }
 {
-    text[at] = b;
-}
-
-// One byte as two digits, from place `at` on.
-fn put_byte(text: &mut [u8], at: usize, b: u8)
-    requires { ⌜ at + 2 ≤ length (now text) ⌝ }
-{
-    put(text, at, digit(b / 16));
-    put(text, at + 1, digit(b % 16));
-}
-
-// Puts the bytes in hex and a line feed at the start of text, and answers how many bytes that makes.
-fn put_hex(bytes: &[u8], text: &mut [u8]) -> usize
-    requires { ⌜ 2 * length (now bytes) + 1 ≤ length (now text) ⌝ }
-    ensures { λ r. ⌜ Counts r (now (text .exit)) ⌝ }
-{
-    let n = bytes.len();
-    for i in 0..n {
-        put_byte(text, 2 * i, bytes[i]);
+    let mut place = at;
+    for i in 0..bytes.len() {
+        place = put_byte(text, place, bytes[i]);
     }
-    put(text, 2 * n, b'\n');
-    2 * n + 1
+    place
 }
 
-fn write_form(name: &[u8], bytes: &[u8])
-    requires { ⌜ length (now bytes) ≤ 2048 ⌝ }
+// Two digits a byte, the higher first.
+fn put_pair(b: u8, text: &mut [u8], at: usize) -> usize
+    requires { ⌜ at + length (hex (b ∷ [])) ≤ length (now text) ⌝ }
+    ensures { λ r. ⌜ Written (now (text .entry)) at (hex (b ∷ [])) (now (text .exit)) r ⌝ }
 {
-    let mut text = [0u8; 2 * LONGEST + 1];
-    let n = put_hex(bytes, &mut text);
-    io::write_all(STDOUT_FILENO, name);
-    io::write_all(STDOUT_FILENO, &text[..n]);
+    let low = put_byte(text, at, digit(b / 16));
+    put_byte(text, low, digit(b % 16))
 }
 
-fn write_refusal(number: u32, place: usize) {
-    io::write_all(STDOUT_FILENO, b"refused ");
-    io::print_decimal(STDOUT_FILENO, number as u64);
-    io::write_all(STDOUT_FILENO, b" ");
-    io::print_decimal(STDOUT_FILENO, place as u64);
-    io::write_all(STDOUT_FILENO, b"\n");
+fn put_hex(bytes: &[u8], text: &mut [u8], at: usize) -> usize
+    requires { ⌜ at + length (hex (now bytes)) ≤ length (now text) ⌝ }
+    ensures { λ r. ⌜ Written (now (text .entry)) at (hex (now (bytes .entry))) (now (text .exit)) r ⌝ }
+{
+    let mut place = at;
+    for i in 0..bytes.len() {
+        place = put_pair(bytes[i], text, place);
+    }
+    place
 }
 
-// The line of one form, or of the refusal; whether the word was accepted.
-fn report_form(form: Form, name: &[u8], word: &[u8]) -> bool {
+// The digits of the number's tenth, then its last one.
+fn put_decimal(x: usize, text: &mut [u8], at: usize) -> usize
+    requires { ⌜ at + length (decimal x) ≤ length (now text) ⌝ }
+    ensures { λ r. ⌜ Written (now (text .entry)) at (decimal x) (now (text .exit)) r ⌝ }
+{
+    if x < 10 {
+        return put_byte(text, at, b'0' + x as u8);
+    }
+    let last = put_decimal(x / 10, text, at);
+    put_byte(text, last, b'0' + (x % 10) as u8)
+}
+
+// ---------------------------------------------------------------- lines
+
+// "a name, a blank and lower-case hex", and a line feed.
+fn put_named(name: &[u8], bytes: &[u8], text: &mut [u8], at: usize) -> usize
+    requires { ⌜ at + length (line (now name) (now bytes)) ≤ length (now text) ⌝ }
+    ensures { λ r. ⌜ Written (now (text .entry)) at (line (now (name .entry)) (now (bytes .entry))) (now (text .exit)) r ⌝ }
+{
+    let blank = put_bytes(name, text, at);
+    let digits = put_byte(text, blank, b' ');
+    let end = put_hex(bytes, text, digits);
+    put_byte(text, end, b'\n')
+}
+
+// The line of one form of an accepted word. No form is refused: all fit into the room.
+fn put_line(form: Form, name: &[u8], word: &[u8], text: &mut [u8], at: usize) -> usize
+    requires { ⌜ Accepted (now word) × (at + length (line (now name) (formBytes form (now word))) ≤ length (now text)) ⌝ }
+    ensures { λ r. ⌜ Written (now (text .entry)) at (line (now (name .entry)) (formBytes form (now (word .entry)))) (now (text .exit)) r ⌝ }
+{
     let mut room = [0u8; LONGEST];
-    let answer = written(form, word, &mut room);
-    match answer {
-        Written::Done { length } => {
-            write_form(name, &room[..length]);
-            true
-        }
-        Written::Refused { number, place } => {
-            write_refusal(number, place);
-            false
-        }
-    }
+    let pathplus::Written::Done { length } = written(form, word, &mut room) else {
+        return at;
+    };
+    let answer = &room[..length];
+    put_named(name, answer, text, at)
 }
 
-// What is refused is refused to all three writers alike, so the first one's line is the only one.
-pub fn report(word: &[u8]) {
-    if report_form(Form::Plain, b"plain ", word) {
-        report_form(Form::Minimal, b"minimal ", word);
-        report_form(Form::Normal, b"normal ", word);
+// "plain image, minimal image, normal form"
+fn put_lines(word: &[u8], text: &mut [u8]) -> usize
+    requires { ⌜ Accepted (now word) × (length (programText (now word)) ≤ length (now text)) ⌝ }
+    ensures { λ r. ⌜ Written (now (text .entry)) 0 (programText (now (word .entry))) (now (text .exit)) r ⌝ }
+{
+    let second = put_line(Form::Plain, b"plain", word, text, 0);
+    let third = put_line(Form::Minimal, b"minimal", word, text, second);
+    put_line(Form::Normal, b"normal", word, text, third)
+}
+
+// "`refused N P`, number and place in decimal"
+fn put_refusal(number: usize, place: usize, text: &mut [u8]) -> usize
+    requires { ⌜ length (refusalLine number place) ≤ length (now text) ⌝ }
+    ensures { λ r. ⌜ Written (now (text .entry)) 0 (refusalLine number place) (now (text .exit)) r ⌝ }
+{
+    let first = put_bytes(b"refused ", text, 0);
+    let blank = put_decimal(number, text, first);
+    let second = put_byte(text, blank, b' ');
+    let end = put_decimal(place, text, second);
+    put_byte(text, end, b'\n')
+}
+
+// The text for a word, from the front of the buffer on; the answer is how many bytes it has.
+pub fn program_text(word: &[u8], text: &mut [u8; LONGEST_TEXT]) -> usize
+    ensures { λ r. ⌜ Written (now (text .entry)) 0 (programText (now (word .entry))) (now (text .exit)) r ⌝ }
+{
+    match check_word(word) {
+        Checked::Refused { number, place } => put_refusal(number as usize, place, text),
+        Checked::Accepted => put_lines(word, text),
     }
 }

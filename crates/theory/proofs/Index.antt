@@ -18,6 +18,7 @@ use Rattle.meaning.specs.Normal.{eitherIn, normal, normalOf, normalForm}
 use Rattle.meaning.specs.Word.{Outcome, refused, answered, readWord}
 use Rattle.meaning.specs.Matching.{LaysAt}
 use Rattle.meaning.specs.Promise.{written, Writes, Question, Selected}
+use Rattle.meaning.specs.Program.{programText}
 use Rattle.theory.proofs.Cases as Cases
 use Rattle.theory.proofs.Document as Documents
 use Rattle.theory.proofs.Same as Same
@@ -32,6 +33,7 @@ use Rattle.theory.proofs.Pair as Pair
 use Rattle.theory.proofs.Once.{Bytes}
 use Rattle.theory.proofs.Promise as Promise
 use Rattle.theory.proofs.Idle as Idle
+use Rattle.theory.proofs.Program as Program
 
 -- ------------------------------------------------------------------ documents and worked cases
 -- "On every finite labelled tree": each tree, built from a label and the trees below it, has a document table with its nodes, labels and children.
@@ -199,3 +201,8 @@ hands-back = Idle.hands-back
 pub own-length : (form : Option Query → List ℕ) (word room : List ℕ) (n : ℕ) (after : List ℕ) → Writes form word room (answered n) after
     → (bytes : List ℕ) × (written form word room ≡ answered bytes) × (n ≡ length bytes) × (after ≡ bytes ++ drop n room)
 own-length = Idle.own-length
+
+-- ------------------------------------------------------------------ the program
+-- "three lines, each a name, a blank and lower-case hex", or "one line, `refused N P`": never more than this
+pub program-text-short : (word : List ℕ) → length (programText word) ≤ 10272
+program-text-short = Program.program-text-short

@@ -54,4 +54,5 @@ pub mod Pair
 pub mod Once
 pub mod Promise
 pub mod Idle
+pub mod Program
 pub mod Index

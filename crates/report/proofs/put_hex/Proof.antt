@@ -1,57 +1,38 @@
--- Twice as many digits as bytes, and the line feed, lie in the text.
-use Prim.Native.Nat.{_-_, _≤_}
-use mathlib.Core.Path.{_≡_}
-use lib.ListN.{length}
-use Rattle.io.proofs.Counting.{counts}
-use borrow.Author.Needs.{needs}
+-- Turn by turn the first i bytes are written in hex.
+use Prim.Native.Nat.{_-_}
 use native.Mathlib.Omega.{arith}
+use borrow.Author.Needs.{needs}
+use Rattle.meaning.specs.Program.{hex}
+use Rattle.groups.proofs.Put.{written-length}
+use Rattle.report.proofs.Text.{hex-bytewise, Begun, begun-start, begun-fits, begun-next, begun-end}
 use Rattle.report.proofs.put_hex.Statement.{statement}
 use Rattle.report.proofs.put_hex.Tie as tie
 
 abbrev Inv-loop : tie.InvT-loop
-Inv-loop bytes text₀ n i₀ text i = (i ≤ n) × (length text ≡ length text₀)
+Inv-loop bytes text₀ at place₀ i₀ i-end text place i = Begun hex bytes text₀ at text place i
 
 abbrev μ-loop : tie.MeasureT-loop
-μ-loop bytes text₀ n i₀ text i = n - i
+μ-loop bytes text₀ at place₀ i₀ i-end text place i = i-end - i
 
 loop-holds : tie.Need-loop-holds Inv-loop μ-loop
-loop-holds c = search needs
+loop-holds c = begun-start hex-bytewise _ _ _
 
-mul-put-byte : tie.Need-mul-put-byte Inv-loop μ-loop
-mul-put-byte c = search needs
-
-shared-slice-read-put-byte : tie.Need-shared-slice-read-put-byte Inv-loop μ-loop
-shared-slice-read-put-byte c = search needs
-
-put-byte-requires : tie.Need-put-byte-requires Inv-loop μ-loop
-put-byte-requires c κs = search needs
-
-add-i : tie.Need-add-i Inv-loop μ-loop
-add-i c = search needs
-
-loop-less : tie.Need-loop-less Inv-loop μ-loop
-loop-less c = search needs
+put-pair-requires : tie.Need-put-pair-requires Inv-loop μ-loop
+put-pair-requires c κs =
+    let s = c .before .before .before .before .before .before in
+    let l = c .before .before .before .loop in
+    omega (arith, begun-fits hex-bytewise _ _ _ (c .before .before .loop-test .taken) (l .inv) (s .pre))
 
 loop-again : tie.Need-loop-again Inv-loop μ-loop
-loop-again c = search needs
-
-mul-put : tie.Need-mul-put Inv-loop μ-loop
-mul-put c = search needs
-
-put-requires : tie.Need-put-requires Inv-loop μ-loop
-put-requires c κs = search needs
-
-mul-result : tie.Need-mul-result Inv-loop μ-loop
-mul-result c = search needs
-
-add-result : tie.Need-add-result Inv-loop μ-loop
-add-result c = search needs
+loop-again c =
+    let l = c .before .before .before .before .before .before .loop in
+    begun-next hex-bytewise _ _ _ (c .before .before .before .before .before .loop-test .taken) (l .inv) (c .before .before .put-pair .ensures)
 
 same-length : tie.Need-same-length Inv-loop μ-loop
-same-length c = search needs
+same-length c = written-length (c .before .loop .inv .written)
 
 returns : tie.Need-returns Inv-loop μ-loop
-returns c = counts _ _ (omega arith)
+returns c = begun-end hex-bytewise _ _ _ (c .loop-test .left) (c .before .loop .inv)
 
 pub put-hex-spec : {M : Type 1} → statement M
 put-hex-spec =
@@ -60,15 +41,10 @@ put-hex-spec =
     Inv-loop
     μ-loop
     loop-holds
-    mul-put-byte
-    shared-slice-read-put-byte
-    put-byte-requires
-    add-i
-    loop-less
+    (λ c. search needs)
+    put-pair-requires
+    (λ c. search needs)
+    (λ c. search needs)
     loop-again
-    mul-put
-    put-requires
-    mul-result
-    add-result
     same-length
     returns)
