@@ -1,5 +1,6 @@
 // The check of a word: refusals 1 to 6, "signs from left to right, the first bad sign deciding". Only the numbers of pending operands and of steps are kept.
-use crate::cursor::sign_at;
+use crate::cursor::Cursor;
+use crate::cursor::read_sign;
 use crate::number::Read;
 use crate::refusal::BROKEN_NUMBER;
 use crate::refusal::LACKS_OPERANDS;
@@ -13,9 +14,10 @@ use crate::refusal::TOO_MANY_STEPS;
 use crate::sign::Kind;
 use crate::sign::kind_of;
 ghost use mathlib.Core.Path.{_≡_};
-ghost use Prim.Native.Nat.{ℕ};
+ghost use lib.ListN.{length};
 ghost use Rattle.meaning.specs.Word.{Pending, takes, readWord};
-ghost use Rattle.word.specs.Answer.{countsOf, counting, turnOf, checkedOf, verdict};
+ghost use Rattle.word.specs.Answer.{countsOf, counting, turnOf, takesRead, goesOn, atLast, allSigns, checkedOf, verdict};
+ghost use Rattle.word.specs.declared.whole.Turn.the-variants.{Next};
 
 // The pending operands and the steps so far, counted.
 struct Counts {
@@ -23,10 +25,10 @@ struct Counts {
     steps: usize,
 }
 
-// One sign leaves other counts, or is refused with this number.
+// The signs so far leave these counts, or one of them is refused with a number and its place.
 enum Turn {
     Next(Counts),
-    Stop(u32),
+    Stop(u32, usize),
 }
 
 // The word is accepted, or refused with a number and a place.
@@ -42,40 +44,85 @@ fn count(pending: usize, steps: usize) -> Counts
 }
 
 // One sign, whatever the pending operands are that `counts` counts; "at one sign 4 goes before 5".
-fn take_sign(counts: Counts, sign: u32) -> Turn
-    ensures { λ r. ⌜ ((st : Pending) (at : ℕ) → countsOf st ≡ counts → turnOf at r ≡ counting (takes sign st at)) ⌝ }
+fn take_sign(counts: Counts, sign: u32, at: usize) -> Turn
+    ensures { λ r. ⌜ ((st : Pending) → countsOf st ≡ counts → turnOf r ≡ counting (takes sign st at)) ⌝ }
 {
     let pending = counts.pending;
     let steps = counts.steps;
     match kind_of(sign) {
         Kind::Operand => {
             if MOST_PENDING <= pending {
-                return Turn::Stop(TOO_MANY_PENDING);
+                return Turn::Stop(TOO_MANY_PENDING, at);
             }
             Turn::Next(count(pending + 1, steps))
         }
         Kind::Step => {
             if MOST_PENDING <= pending {
-                return Turn::Stop(TOO_MANY_PENDING);
+                return Turn::Stop(TOO_MANY_PENDING, at);
             }
             if MOST_STEPS <= steps {
-                return Turn::Stop(TOO_MANY_STEPS);
+                return Turn::Stop(TOO_MANY_STEPS, at);
             }
             Turn::Next(count(pending + 1, steps + 1))
         }
         Kind::Unary => {
             if pending < 1 {
-                return Turn::Stop(LACKS_OPERANDS);
+                return Turn::Stop(LACKS_OPERANDS, at);
             }
             Turn::Next(counts)
         }
         Kind::Binary => {
             if pending < 2 {
-                return Turn::Stop(LACKS_OPERANDS);
+                return Turn::Stop(LACKS_OPERANDS, at);
             }
             Turn::Next(count(pending - 1, steps))
         }
     }
+}
+
+// No sign is read yet.
+fn start() -> Turn
+    ensures { λ r. ⌜ r ≡ Next (record { pending = 0; steps = 0 }) ⌝ }
+{
+    Turn::Next(count(0, 0))
+}
+
+// Whether another sign is to be read: none is refused, and the place `at` is not the end.
+fn goes_on(turn: Turn, at: usize, end: usize) -> bool
+    ensures { λ r. ⌜ r ≡ goesOn turn at end ⌝ }
+{
+    match turn {
+        Turn::Next(_) => at < end,
+        Turn::Stop(_, _) => false,
+    }
+}
+
+// What was read at place `at`, after the signs that left `turn`.
+fn take_read(turn: Turn, read: Read, at: usize) -> Turn
+    ensures { λ r. ⌜ ((st : Pending) → turn ≡ Next (countsOf st) → turnOf r ≡ counting (takesRead read st at)) ⌝ }
+{
+    let Turn::Next(counts) = turn else {
+        return turn;
+    };
+    let Read::Number { value, next: _ } = read else {
+        return Turn::Stop(BROKEN_NUMBER, at);
+    };
+    take_sign(counts, value, at)
+}
+
+// "One reading place moves through the word, sign by sign": one cursor, lent to the number reader for each sign.
+fn check_signs(word: &[u8]) -> Turn
+    ensures { λ r. ⌜ atLast r (length (now (word .entry))) ≡ verdict (allSigns (now (word .entry))) ⌝ }
+{
+    let end = word.len();
+    let mut turn = start();
+    let mut cursor = Cursor { at: 0 };
+    while goes_on(turn, cursor.at, end) {
+        let at = cursor.at;
+        let read = read_sign(&mut cursor, word);
+        turn = take_read(turn, read, at);
+    }
+    turn
 }
 
 // Any bytes: the refusal and its place, or that the word is accepted.
@@ -88,31 +135,16 @@ pub fn check_word(word: &[u8]) -> Checked
             place: LONGEST_WORD,
         };
     }
-    let mut counts = count(0, 0);
-    let mut at: usize = 0;
-    while at < word.len() {
-        let Read::Number { value, next } = sign_at(word, at) else {
-            return Checked::Refused {
-                number: BROKEN_NUMBER,
-                place: at,
-            };
-        };
-        match take_sign(counts, value) {
-            Turn::Next(more) => {
-                counts = more;
+    match check_signs(word) {
+        Turn::Next(counts) => {
+            if counts.pending == 1 {
+                return Checked::Accepted;
             }
-            Turn::Stop(number) => {
-                return Checked::Refused { number, place: at };
+            Checked::Refused {
+                number: NOT_ONE_LEFT,
+                place: word.len(),
             }
         }
-        at = next;
-    }
-    if counts.pending == 1 {
-        Checked::Accepted
-    } else {
-        Checked::Refused {
-            number: NOT_ONE_LEFT,
-            place: word.len(),
-        }
+        Turn::Stop(number, place) => Checked::Refused { number, place },
     }
 }

@@ -18,7 +18,7 @@ enum-told c = search needs
 
 -- an operand: refusal 4
 returns : tie.Need-returns
-returns c st at e = operand-refused _ st at e (sym (c .before .before .before .kind-of .ensures) ∙ c .before .enum-told .given .1) (omega arith)
+returns c st e = operand-refused _ st _ e (sym (c .before .before .before .kind-of .ensures) ∙ c .before .enum-told .given .1) (omega arith)
 
 add-count : tie.Need-add-count
 add-count c = search needs
@@ -31,11 +31,11 @@ enum-told-2 c = search needs
 
 -- a step: refusal 4
 returns-2 : tie.Need-returns-2
-returns-2 c st at e = step-refused _ st at e (sym (c .before .before .before .kind-of .ensures) ∙ c .before .enum-told2 .given .1) (omega arith)
+returns-2 c st e = step-refused _ st _ e (sym (c .before .before .before .kind-of .ensures) ∙ c .before .enum-told2 .given .1) (omega arith)
 
 -- a step: refusal 5
 returns-3 : tie.Need-returns-3
-returns-3 c st at e = step-256th _ st at e (sym (c .before .before .before .before .kind-of .ensures) ∙ c .before .before .enum-told2 .given .1) (omega arith) (omega arith)
+returns-3 c st e = step-256th _ st _ e (sym (c .before .before .before .before .kind-of .ensures) ∙ c .before .before .enum-told2 .given .1) (omega arith) (omega arith)
 
 add-count-2 : tie.Need-add-count-2
 add-count-2 c = search needs
@@ -51,14 +51,14 @@ enum-told-3 c = search needs
 
 -- an operator on one operand: refusal 3
 returns-4 : tie.Need-returns-4
-returns-4 c st at e = unary-refused _ st at e (sym (c .before .before .before .kind-of .ensures) ∙ c .before .enum-told3 .given .1) (omega arith)
+returns-4 c st e = unary-refused _ st _ e (sym (c .before .before .before .kind-of .ensures) ∙ c .before .enum-told3 .given .1) (omega arith)
 
 enum-told-4 : tie.Need-enum-told-4
 enum-told-4 c = search needs
 
 -- an operator on two operands: refusal 3
 returns-5 : tie.Need-returns-5
-returns-5 c st at e = binary-refused _ st at e (sym (c .before .before .before .kind-of .ensures) ∙ c .before .enum-told4 .given .1) (omega arith)
+returns-5 c st e = binary-refused _ st _ e (sym (c .before .before .before .kind-of .ensures) ∙ c .before .enum-told4 .given .1) (omega arith)
 
 sub-count : tie.Need-sub-count
 sub-count c = search needs
@@ -68,19 +68,19 @@ count-requires-3 c κs = search needs
 
 -- an operand that is taken
 returns-6 : tie.Need-returns-6
-returns-6 c st at e = rw (c .count .ensures) (operand-taken _ st at e (sym (c .before .before .before .before .kind-of .ensures) ∙ c .before .before .enum-told .given .1) (omega arith))
+returns-6 c st e = rw (c .count .ensures) (operand-taken _ st _ e (sym (c .before .before .before .before .kind-of .ensures) ∙ c .before .before .enum-told .given .1) (omega arith))
 
 -- a step that is taken
 returns-7 : tie.Need-returns-7
-returns-7 c st at e = rw (c .count2 .ensures) (step-taken _ st at e (sym (c .before .before .before .before .before .kind-of .ensures) ∙ c .before .before .before .enum-told2 .given .1) (omega arith) (omega arith))
+returns-7 c st e = rw (c .count2 .ensures) (step-taken _ st _ e (sym (c .before .before .before .before .before .kind-of .ensures) ∙ c .before .before .before .enum-told2 .given .1) (omega arith) (omega arith))
 
 -- an operator on one operand that is taken
 returns-8 : tie.Need-returns-8
-returns-8 c st at e = unary-taken _ st at e (sym (c .before .before .before .kind-of .ensures) ∙ c .before .enum-told3 .given .1) (omega arith)
+returns-8 c st e = unary-taken _ st _ e (sym (c .before .before .before .kind-of .ensures) ∙ c .before .enum-told3 .given .1) (omega arith)
 
 -- an operator on two operands that is taken
 returns-9 : tie.Need-returns-9
-returns-9 c st at e = rw (c .count3 .ensures) (binary-taken _ st at e (sym (c .before .before .before .before .kind-of .ensures) ∙ c .before .before .enum-told4 .given .1) (omega arith))
+returns-9 c st e = rw (c .count3 .ensures) (binary-taken _ st _ e (sym (c .before .before .before .before .kind-of .ensures) ∙ c .before .before .enum-told4 .given .1) (omega arith))
 
 pub take-sign-spec : {M : Type 1} → statement M
 take-sign-spec =
