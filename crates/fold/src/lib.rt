@@ -170,11 +170,10 @@ fn first_foldable(
 {
     let mut i = from;
     'pair: while i < k {
-        let u = child_at(child, i);
         let mut j: usize = 0;
         while j < k {
             if i != j {
-                if folds_onto(code, mark, span, up, u, child_at(child, j)) {
+                if folds_onto(code, mark, span, up, child_at(child, i), child_at(child, j)) {
                     break 'pair;
                 }
             }
