@@ -161,6 +161,12 @@ module _ {code mark span up : List ℕ} {p : ℕ} {up′ : List ℕ} (S : Stands
       apart x y n o (i, a, b) (j, c, d) =
           F .before i (omega arith) (omega arith) (j, c, λ e. n (sym b ∙ ap (λ h. getD child h 0) e ∙ d), rw (b, d) o)
 
+  -- where there is one child or none, there is no pair
+  pub searched-few : k < 2 → ChildrenFolded code mark span up p up′
+  searched-few l =
+      searched-all {i = k}
+      (record { begun = omega arith; until = omega arith; before = λ i a b f. f .2 (omega (arith, f .1)); here = λ n. absurd (omega arith) }) (omega arith)
+
   -- the i-th folds onto another one and is taken out; m others are left
   module _ {i m : ℕ} (F : FirstFoldable code mark span up′ child 0 k i) (q : k ≡ m + 1) (l : i < k)
       {up″ child″ : List ℕ} (X : TakenOut up′ child i m up″ child″) where

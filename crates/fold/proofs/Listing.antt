@@ -17,35 +17,45 @@ use Rattle.fold.proofs.Brothers.{top-range, Over, over-child, over-step
 pub lists-same : {P Q : ℕ → Type 0} {child : List ℕ} {k : ℕ} → Lists P child k → ((x : ℕ) → P x → Q x) → ((x : ℕ) → Q x → P x) → Lists Q child k
 lists-same L to from = record { room = L .room; each = λ i l. to _ (L .each i l); all = λ x q. L .all x (from x q); once = L .once }
 
--- one row more, c, which is not listed yet
-lists-more : {P Q : ℕ → Type 0} {child : List ℕ} {k : ℕ} (c : ℕ) → Lists P child k → k < length child → ¬ P c → Q c → ((x : ℕ) → P x → Q x)
-    → ((x : ℕ) → Q x → P x ⊎ (x ≡ c)) → Lists Q (set child k c) (k + 1)
-lists-more {P} {Q} {child} {k} c L l n here to from =
+-- what stands behind the list does not matter
+pub lists-store : {P : ℕ → Type 0} {child : List ℕ} {k : ℕ} (c : ℕ) → Lists P child k → Lists P (set child k c) k
+lists-store {P} {child} {k} c L =
     record {
-      room = rw length-set (omega arith);
+      room = rw length-set (L .room);
+      each = λ i l. rw (same i l) (L .each i l);
+      all = λ x p. let w = L .all x p in (w .0, w .1, same (w .0) (w .1) ∙ w .2);
+      once = λ i j l m e. L .once i j l m (sym (same i l) ∙ e ∙ same j m);
+    }
+  where
+    same : (i : ℕ) → i < k → getD (set child k c) i 0 ≡ getD child i 0
+    same i l = getD-set-other child k i c 0 (λ e. omega arith)
+
+-- the row that stands behind the list, c, is listed too
+lists-more : {P Q : ℕ → Type 0} {child : List ℕ} {k c : ℕ} → Lists P child k → k < length child → getD child k 0 ≡ c → ¬ P c → Q c
+    → ((x : ℕ) → P x → Q x) → ((x : ℕ) → Q x → P x ⊎ (x ≡ c)) → Lists Q child (k + 1)
+lists-more {P} {Q} {child} {k} {c} L l s n here to from =
+    record {
+      room = omega arith;
       each = λ i m. each i (decLt i k) m;
       all = λ x q. all x (from x q);
       once = λ i j m o. once i j (decLt i k) (decLt j k) m o;
     }
   where
-    old : (i : ℕ) → i < k → getD (set child k c) i 0 ≡ getD child i 0
-    old i m = getD-set-other child k i c 0 (λ e. omega arith)
+    last : (i : ℕ) → ¬ (i < k) → i < k + 1 → getD child i 0 ≡ c
+    last i m o = let e : i ≡ k = omega arith in rw e s
 
-    new : (i : ℕ) → ¬ (i < k) → i < k + 1 → getD (set child k c) i 0 ≡ c
-    new i m o = let e : i ≡ k = omega arith in rw e (getD-set-same child k c 0 l)
+    each : (i : ℕ) → Dec (i < k) → i < k + 1 → Q (getD child i 0)
+    each i (yes m) o = to _ (L .each i m)
+    each i (no m) o = rw (last i m o) here
 
-    each : (i : ℕ) → Dec (i < k) → i < k + 1 → Q (getD (set child k c) i 0)
-    each i (yes m) o = rw (old i m) (to _ (L .each i m))
-    each i (no m) o = rw (new i m o) here
+    all : (x : ℕ) → P x ⊎ (x ≡ c) → (i : ℕ) × (i < k + 1) × (getD child i 0 ≡ x)
+    all x (inl p) = let w = L .all x p in (w .0, omega (arith, w .1), w .2)
+    all x (inr e) = (k, omega arith, s ∙ sym e)
 
-    all : (x : ℕ) → P x ⊎ (x ≡ c) → (i : ℕ) × (i < k + 1) × (getD (set child k c) i 0 ≡ x)
-    all x (inl p) = let w = L .all x p in (w .0, omega (arith, w .1), old (w .0) (w .1) ∙ w .2)
-    all x (inr e) = (k, omega arith, getD-set-same child k c 0 l ∙ sym e)
-
-    once : (i j : ℕ) → Dec (i < k) → Dec (j < k) → i < k + 1 → j < k + 1 → getD (set child k c) i 0 ≡ getD (set child k c) j 0 → i ≡ j
-    once i j (yes m) (yes o) a b e = L .once i j m o (sym (old i m) ∙ e ∙ old j o)
-    once i j (yes m) (no o) a b e = absurd (n (rw (sym (old i m) ∙ e ∙ new j o b) at (L .each i m)))
-    once i j (no m) (yes o) a b e = absurd (n (rw (sym (old j o) ∙ sym e ∙ new i m a) at (L .each j o)))
+    once : (i j : ℕ) → Dec (i < k) → Dec (j < k) → i < k + 1 → j < k + 1 → getD child i 0 ≡ getD child j 0 → i ≡ j
+    once i j (yes m) (yes o) a b e = L .once i j m o e
+    once i j (yes m) (no o) a b e = absurd (n (rw (e ∙ last j o b) at (L .each i m)))
+    once i j (no m) (yes o) a b e = absurd (n (rw (sym e ∙ last i m a) at (L .each j o)))
     once i j (no m) (no o) a b e = omega arith
 
 -- ------------------------------------------------------------------ the last takes the i-th place
@@ -134,10 +144,10 @@ module _ {span up child : List ℕ} {p c e k : ℕ} {P : ℕ → Type 0} (O : Ov
   list-all l = lists-same L (λ x b. b .0) (λ x t. (t, over-all (over-with O {Q = λ y. y < c} (λ y s m. m)) l x (t .top)))
 
   module _ (l : c < e) {s : ℕ} (q : s ≡ getD span c 0) where
-    -- row c is there
-    pub list-child : getD up c 0 ≡ p → k < length child → Lists (Before span up p (c + s)) (set child k c) (k + 1)
-    list-child d r =
-        lists-more c L r (λ b. omega (arith, b .1)) (record { top = over-child O l .0; there = d }, omega (arith, over-step O l q))
+    -- row c, which stands behind the list, is there
+    pub list-child : getD up c 0 ≡ p → k < length child → getD child k 0 ≡ c → Lists (Before span up p (c + s)) child (k + 1)
+    list-child d r h =
+        lists-more L r h (λ b. omega (arith, b .1)) (record { top = over-child O l .0; there = d }, omega (arith, over-step O l q))
         (λ x b. (b .0, omega (arith, b .1))) (λ x b. go x (b .0) (over-split O l q x (b .0 .top) (b .1)))
       where
         go : (x : ℕ) → Child span up p x → (x < c) ⊎ (x ≡ c) → Before span up p c x ⊎ (x ≡ c)

@@ -129,7 +129,7 @@ fn folds_onto(code: &[u32], mark: &[u8], span: &[u16], up: &[u16], u: usize, v: 
     children_fold(code, mark, span, up, u, v)
 }
 
-// Lists the children of row p that are still there. Returns how many there are.
+// Lists the children of row p that are still there. Returns how many there are. Each row is stored and only then counted, which spares a branch.
 fn list_children(span: &[u16], up: &[u16], p: usize, child: &mut [u16]) -> usize
     requires { ⌜ Listable (now span) (now up) p (now child) ⌝ }
     ensures { λ r. ⌜ Listed (now (span .entry)) (now (up .entry)) p (now (child .exit)) r ⌝ }
@@ -138,8 +138,8 @@ fn list_children(span: &[u16], up: &[u16], p: usize, child: &mut [u16]) -> usize
     let mut c = p + 1;
     let mut k: usize = 0;
     while c < end {
+        child[k] = c as u16;
         if is_child(up, p, c) {
-            child[k] = c as u16;
             k += 1;
         }
         c += span_at(span, c);
@@ -170,11 +170,10 @@ fn first_foldable(
 {
     let mut i = from;
     'pair: while i < k {
-        let u = child_at(child, i);
         let mut j: usize = 0;
         while j < k {
             if i != j {
-                if folds_onto(code, mark, span, up, u, child_at(child, j)) {
+                if folds_onto(code, mark, span, up, child_at(child, i), child_at(child, j)) {
                     break 'pair;
                 }
             }
@@ -207,6 +206,10 @@ fn fold_children(
     ensures { λ _. ⌜ ChildrenFolded (now (code .entry)) (now (mark .entry)) (now (span .entry)) (now (up .entry)) p (now (up .exit)) ⌝ }
 {
     let mut k = list_children(span, up, p, child);
+    // most rows have one child or none
+    if k < 2 {
+        return;
+    }
     let mut i = first_foldable(code, mark, span, up, child, 0, k);
     while i < k {
         k -= 1;

@@ -1,14 +1,15 @@
 -- The children before row c that are still there are listed, and they are fewer than the rows behind p that were passed.
-use Prim.Native.Nat.{_+_, _≤_, _-_}
+use Prim.Native.Nat.{_+_, _≤_, _<_, _-_}
 use mathlib.Core.Path.{_≡_, refl, sym, _∙_}
 use mathlib.Core.Logic.{⊎-elim}
 use native.Mathlib.Omega.{arith}
 use lib.ListN.{length, length-set}
+use lib.Seq.{getD-set-same}
 use borrow.Author.Needs.{needs}
 use borrow.Author.Tests.{eqb-true, eqb-false}
 use Rattle.fold.specs.Kept.{Lists}
 use Rattle.fold.proofs.Brothers.{Over, over-start, over-step, over-next}
-use Rattle.fold.proofs.Listing.{Before, list-start, list-child, list-gone, list-all}
+use Rattle.fold.proofs.Listing.{lists-store, Before, list-start, list-child, list-gone, list-all}
 use Rattle.fold.proofs.list_children.Statement.{statement}
 use Rattle.fold.proofs.list_children.Tie as tie
 
@@ -37,25 +38,24 @@ loop-less c =
 
 loop-again : tie.Need-loop-again Inv-loop μ-loop
 loop-again c =
-    let v = c .before .before .before .before .loop .inv in
+    let h = c .before .before .before .before in
+    let v = h .loop .inv in
     let t = c .before .before .before .loop-test .taken in
     let d = c .span-at2 .ensures in
     let z = over-step (v .2) t d in
     let o = over-next (v .2) t d tt in
     let r = c .before .before .is-child .ensures in
-    let s = c .before .before .before .before .before .before .before .before .before .pre in
+    let m : h .loop .k < length (h .loop .child) = omega (arith, h .before .before .before .before .before .pre, v .1, v .2 .ends) in
+    let L = lists-store (h .loop .c) (v .3) in
     ⊎-elim
-    (λ w. rw (w .1, w .2) (
+    (λ w. rw (w .1) (
       simp length-set (v .0),
       omega (arith, v .1, z),
       o,
-      list-child (v .2) (v .3) t d (eqb-true _ _ (sym r ∙ w .0 .taken)) (omega (arith, s, v .0, v .1, v .2 .ends)),
+      list-child (v .2) L t d (eqb-true _ _ (sym r ∙ w .0 .taken)) (simp length-set m) (getD-set-same (h .loop .child) _ _ 0 m),
     ))
-    (λ w. rw (w .1, w .2) (v .0, omega (arith, v .1, z), o, list-gone (v .2) (v .3) t d (eqb-false _ _ (sym r ∙ w .0 .left))))
+    (λ w. rw (w .1) (simp length-set (v .0), omega (arith, v .1, z), o, list-gone (v .2) L t d (eqb-false _ _ (sym r ∙ w .0 .left))))
     (c .before .if1 .came)
-
-same-length : tie.Need-same-length Inv-loop μ-loop
-same-length c = c .before .loop .inv .0
 
 returns : tie.Need-returns Inv-loop μ-loop
 returns c = list-all (c .before .loop .inv .2) (c .before .loop .inv .3) (c .loop-test .left)
@@ -70,14 +70,14 @@ list-children-spec =
     (λ c. search needs)
     (λ c. search needs)
     loop-holds
+    (λ c. search needs)
+    (λ c. search needs)
+    (λ c. search needs)
     (λ c κs. search needs)
-    (λ c. search needs)
-    (λ c. search needs)
-    (λ c. search needs)
     (λ c. search needs)
     (λ c κs. search needs)
     add-c-2
     loop-less
     loop-again
-    same-length
+    (λ c. search needs)
     returns)
