@@ -12,3 +12,4 @@ mod Pushing
 mod Combining
 mod Taking
 mod Reading
+mod Lent

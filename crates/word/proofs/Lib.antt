@@ -8,4 +8,4 @@ mod Outcomes
 mod Reading
 mod Counting
 mod Checking
-mod Lending
+pub mod Lending
