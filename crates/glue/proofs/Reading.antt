@@ -8,7 +8,7 @@ use native.Mathlib.Omega.{arith}
 use lib.ListN.{length, getD, set, length-set}
 use lib.Seq.{getD-set-same}
 use Rattle.meaning.specs.Expression.{Expr}
-use Rattle.meaning.specs.Number.{largestLabel, broken, readNumber}
+use Rattle.meaning.specs.Number.{largestLabel, readNumber}
 use Rattle.meaning.specs.TreeQuery.{node, Query, TreeQuery}
 use Rattle.meaning.specs.Gluing.{plain}
 use Rattle.meaning.specs.Word.{answered, andThen, Pending, readWord}

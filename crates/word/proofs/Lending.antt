@@ -1,4 +1,5 @@
--- What the two walks over a cursor share: a cursor and what was read, as values of the machine, and the call of a covered function on what was read and a place.
+-- What the walks over a cursor share: a cursor and what was read, as values of the machine; a cursor in memory, as a local's cell and as what is lent; the test of a loop;
+-- and the call of a covered function on what was read and a place.
 use mathlib.Core.Path.{_≡_, refl}
 use mathlib.Core.Bool.{Bool, true, false}
 use Prim.Native.Nat.{ℕ, _<_, _^_}
@@ -23,19 +24,12 @@ use denote.Steps.{owned, peeks, facts, nothing}
 use denote.Struct.Steps.{spelt}
 use denote.Enum.Laws as EL
 use denote.Struct.Laws as LL
-use Rattle.word.specs.Cursor.{placePast, atPlace}
 use Rattle.word.specs.declared.number.Read.{Read}
-use Rattle.word.specs.declared.number.Read.the-variants.{Number, Broken}
 use Rattle.word.specs.declared.cursor.Cursor.{Cursor}
 use Rattle.word.proofs.number.Read as S
 use Rattle.word.proofs.number.Read.Laws as S′
 use Rattle.word.proofs.cursor.Cursor as T
 use Rattle.word.proofs.cursor.Cursor.Laws as T′
-
--- the place past what was read is the one that it names
-pub place-past-kept : (at : ℕ) (read : Read) → atPlace (placePast at read) read ≡ read
-place-past-kept at (Number value next) = refl
-place-past-kept at Broken = refl
 
 -- a cursor that stands at a place, and its machine value
 abbrev pub standing : ℕ → Cursor
@@ -44,7 +38,7 @@ standing m = record { at = m }
 abbrev pub machine : ℕ → Val
 machine m = vstruct (vcons (vint w64 m) vnil)
 
--- steps of both walks
+-- steps of the walks
 module _ {M : Type 1} {𝓤 : URA M} {H : Heap 𝓤} {A : Atoms 𝓤} {K : Type 0} {W : Given 𝓤 H A} {Γ : List (Item 𝓤)} {G : Goal 𝓤 H} where
   -- what a place owns, and what a cursor at a place owns: plain data, had for nothing
   pub place-owned : K → (m : ℕ) → m < 2 ^ 64 → Step K W (‵ (usize .own m (vint w64 m ∷ [])) ∷ Γ) G Γ G

@@ -9,3 +9,4 @@ mod Reading
 mod Counting
 mod Checking
 pub mod Lending
+pub mod OneCursor

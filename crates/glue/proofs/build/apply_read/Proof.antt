@@ -9,32 +9,11 @@ use Rattle.glue.proofs.build.apply_read.Reads as reads
 use Rattle.glue.proofs.build.apply_read.Lts as lts
 use Rattle.glue.proofs.build.apply_sign.Reads as apply-sign-reads
 
-enum-known-read : tie.Need-enum-known-read
-enum-known-read c = search needs
-
-enum-told : tie.Need-enum-told
-enum-told c = search needs
-
 returns : tie.Need-returns
 returns c sign next e = absurd (number-broken (sym e ∙ c .enum-told .given .1))
 
 apply-sign-requires : tie.Need-apply-sign-requires
 apply-sign-requires c κs = c .before .before .before .before .before .before .before .before .before .before .before .before .before .pre _ _ (c .before .before .before .before .before .before .read .given .1)
-
-same-length : tie.Need-same-length
-same-length c = search needs
-
-same-length-2 : tie.Need-same-length-2
-same-length-2 c = search needs
-
-same-length-3 : tie.Need-same-length-3
-same-length-3 c = search needs
-
-same-length-4 : tie.Need-same-length-4
-same-length-4 c = search needs
-
-same-length-5 : tie.Need-same-length-5
-same-length-5 c = search needs
 
 returns-2 : tie.Need-returns-2
 returns-2 c sign next e st st′ at h t =
@@ -44,13 +23,13 @@ pub apply-read-spec : {M : Type 1} → statement M
 apply-read-spec =
     tie.close
     (tie.spec
-    enum-known-read
-    enum-told
+    (λ c. search needs)
+    (λ c. search needs)
     returns
     apply-sign-requires
-    same-length
-    same-length-2
-    same-length-3
-    same-length-4
-    same-length-5
+    (λ c. search needs)
+    (λ c. search needs)
+    (λ c. search needs)
+    (λ c. search needs)
+    (λ c. search needs)
     returns-2)

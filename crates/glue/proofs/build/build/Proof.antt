@@ -10,35 +10,11 @@ use Rattle.glue.proofs.build.build.Lts as lts
 use Rattle.glue.proofs.build.apply_signs.Reads as apply-signs-reads
 use Rattle.glue.proofs.pool.entry.Reads as entry-reads
 
-slice-write-first : tie.Need-slice-write-first
-slice-write-first c = search needs
-
 apply-signs-requires : tie.Need-apply-signs-requires
 apply-signs-requires c κs = (c .before .before .before .before .before .before .before .before .before .before .before .pre .0, holds-start _ _ (c .before .before .before .before .before .before .before .before .before .before .before .args .first .now) _ _ (c .before .before .before .before .before .before .before .before .before .before .before .pre .1))
 
-entry-requires : tie.Need-entry-requires
-entry-requires c κs = search needs
-
-entry-requires-2 : tie.Need-entry-requires-2
-entry-requires-2 c κs = search needs
-
-entry-requires-3 : tie.Need-entry-requires-3
-entry-requires-3 c κs = search needs
-
-same-length : tie.Need-same-length
-same-length c = search needs
-
-same-length-2 : tie.Need-same-length-2
-same-length-2 c = search needs
-
 same-length-3 : tie.Need-same-length-3
 same-length-3 c = c .before .before .before .before .before .before .before .before .before .before .before .before .before .before .before .before .apply-signs .kept .1 .1 .1 .0 ∙ length-set (c .before .before .before .before .before .before .before .before .before .before .before .before .before .before .before .before .before .before .before .before .before .before .before .before .before .before .before .before .args .first .now) 0 0
-
-same-length-4 : tie.Need-same-length-4
-same-length-4 c = search needs
-
-same-length-5 : tie.Need-same-length-5
-same-length-5 c = search needs
 
 returns : tie.Need-returns
 returns c = reading-end _ _ _ (c .before .before .before .before .before .before .before .before .before .before .before .before .before .before .before .before .apply-signs .ensures) _ _ _ (c .before .before .before .before .entry .ensures .0) (c .before .before .entry2 .ensures .0) (c .entry3 .ensures .0)
@@ -47,14 +23,14 @@ pub build-spec : {M : Type 1} → statement M
 build-spec =
     tie.close
     (tie.spec
-    slice-write-first
+    (λ c. search needs)
     apply-signs-requires
-    entry-requires
-    entry-requires-2
-    entry-requires-3
-    same-length
-    same-length-2
+    (λ c κs. search needs)
+    (λ c κs. search needs)
+    (λ c κs. search needs)
+    (λ c. search needs)
+    (λ c. search needs)
     same-length-3
-    same-length-4
-    same-length-5
+    (λ c. search needs)
+    (λ c. search needs)
     returns)
