@@ -15,7 +15,8 @@ use prog.Routine.{Routine}
 use prog.Wp.{Heap, Env, Calls, Loops}
 use ghost.Atoms.{Atoms}
 use contract.Monad.{Fun, fact}
-use types.Kit.{Given, Item, Post, Seq, Go, runs, lands, ‵, raw, _⊛_, some, later, _$_, _∵_, !, qed, move, drop, use1, use2, use3, split, join, pick, fsplit, fjoin, frame, await, done}
+use types.Kit.{Given, Item, Post, Seq, Go, runs, lands, ‵, raw, _⊛_, some, later, _$_, _∵_, !, qed, move, drop, use1, use2, use3, split, join, pick}
+use types.Kit.{fsplit, fjoin, frame, await, done}
 use types.Run.{Opds}
 use types.SemTy.{Body}
 use types.Tokens.{lft-new, lft-end}
@@ -75,7 +76,8 @@ module _ {M : Type 1} (𝓤 : URA M) (H : Heap 𝓤) (A : Atoms 𝓤) (at-mem : 
 
         asked : ent 𝓤 (onEntry 𝓤 H A rs.signature (α ∷ [], (κ, tt)) (fullShare, (q, tt)) args passed) (ReadSign .pre to)
         asked =
-            qed W ((‵ (flft (α ∷ []) fullShare) ⊛ ‵ (flft κ q) ⊛ ‵ ftrue) ∷ ‵ (owns (MutRef (named 0) (α ∷ []) T.the-row ∷ ShrSlice (named 1) κ u8 ∷ []) args passed) ∷ []) ∵
+            qed W ((‵ (flft (α ∷ []) fullShare) ⊛ ‵ (flft κ q) ⊛ ‵ ftrue)
+            ∷ ‵ (owns (MutRef (named 0) (α ∷ []) T.the-row ∷ ShrSlice (named 1) κ u8 ∷ []) args passed) ∷ []) ∵
             join ! $ frame ! $ done !
 
         abbrev told : Read → SProp 𝓤
@@ -91,23 +93,29 @@ module _ {M : Type 1} (𝓤 : URA M) (H : Heap 𝓤) (A : Atoms 𝓤) (at-mem : 
       module _ {C : Calls 𝓤 H} (fm : FmC 𝓤 H (W .laws) C) (known : Triple 𝓤 (C #read-sign) ReadSign) (fits : m < 2 ^ 64)
           {Γ : List (Item 𝓤)} {E : Env 𝓤 H} {Λ : Loops 𝓤 H} {Q : Post 𝓤 H} {xs : List Operand} {d : Place} {rest : Code} where
         pub reads-sign : ((α : ℕ) (δ : GName) → Opds (Go {0}) W (Asking α δ Γ) E xs (vptr l 0 ∷ v ∷ []))
-            → ((u : Val) (r : Read) (m′ : ℕ) → Found r m′ → Is S.the-row r (u ∷ []) → m′ < 2 ^ 64 → Seq (Go {0}) W (With m′ Γ) (lands C Λ E d u rest Q))
+            → ((u : Val) (r : Read) (m′ : ℕ) → Found r m′ → Is S.the-row r (u ∷ []) → m′ < 2 ^ 64
+            → Seq (Go {0}) W (With m′ Γ) (lands C Λ E d u rest Q))
             → Seq (Go {0}) W (With m Γ) (runs C Λ E (seq (call #read-sign xs d) rest) Q)
         reads-sign operands k =
             use1 W (‵ (partAt T.the-row fullShare (standing m) l 0)) (packs 𝓤 H A W m l fits) $ lft-new ! tt (λ α. move ! (1 ∷ []) $
-            use1 W (later (some (λ (δ : GName). ‵ (MutRef (named 0) (α ∷ []) T.the-row .own (args α δ .0) (vptr l 0 ∷ [])) ⊛ ‵ (flent (α ∷ []) (Body (mem T.the-row) l 0 δ)))))
+            use1 W (later (some (λ (δ : GName). ‵ (MutRef (named 0) (α ∷ []) T.the-row .own (args α δ .0) (vptr l 0 ∷ []))
+            ⊛ ‵ (flent (α ∷ []) (Body (mem T.the-row) l 0 δ)))))
             (lends-ref 𝓤 H A W T.the-row (named 0) (α ∷ []) (standing m) l 0) $ await ! tt $ pick ! (λ δ. split ! $
             -- [the reference; the lender's part; the lifetime; the word's token; the word]: the word is had twice, one goes to the call with the tokens and the reference
             move ! (4 ∷ []) $ use1 W (‵ Word ⊛ ‵ Word) (shr-slice-copy 𝓤 H A W (named 0) κ u8 .twice w (v ∷ [])) $ split ! $
             move ! (4 ∷ 5 ∷ []) $ join ! $ nothing ! $ move ! (2 ∷ 0 ∷ []) $ fjoin ! $ move ! (3 ∷ 0 ∷ []) $ fjoin ! $ move ! (1 ∷ 0 ∷ []) $
             use2 W (raw (ReadSign .pre (to α δ))) (asked α δ) $
             calls-at ! fm ReadSign known (to α δ) (operands α δ) (λ u.
-            use1 W (later (some (λ (r : Read). ((‵ (flft (α ∷ []) fullShare) ⊛ ‵ (flft κ q) ⊛ ‵ ftrue) ⊛ ‵ (S.the-row .own r (u ∷ []))) ⊛ raw (told α δ r)))) (id⊢ 𝓤 _) $
+            use1 W (later (some (λ (r : Read). ((‵ (flft (α ∷ []) fullShare) ⊛ ‵ (flft κ q) ⊛ ‵ ftrue)
+            ⊛ ‵ (S.the-row .own r (u ∷ []))) ⊛ raw (told α δ r)))) (id⊢ 𝓤 _) $
             await ! tt $ pick ! (λ r. split ! $ move ! (1 ∷ []) $
-            use1 W (some (λ (zs : Cursor × (Unit {0} × Unit {0})). ‵ (lasts rs.ended (α ∷ [], (κ, tt)) (args α δ) zs) ⊛ raw (fact 𝓤 (Found r (zs .0 .at))))) (id⊢ 𝓤 _) $
-            pick ! (λ zs. split ! $ move ! (1 ∷ []) $ heard ! (Found r (zs .0 .at)) (λ found. fsplit ! $ move ! (2 ∷ []) $ split ! $ move ! (1 ∷ []) $ read-seen ! r u (λ is. drop ! $
+            use1 W (some (λ (zs : Cursor × (Unit {0} × Unit {0})). ‵ (lasts rs.ended (α ∷ [], (κ, tt)) (args α δ) zs)
+            ⊛ raw (fact 𝓤 (Found r (zs .0 .at))))) (id⊢ 𝓤 _) $
+            pick ! (λ zs. split ! $ move ! (1 ∷ []) $ heard ! (Found r (zs .0 .at)) (λ found. fsplit ! $ move ! (2 ∷ []) $ split ! $
+            move ! (1 ∷ []) $ read-seen ! r u (λ is. drop ! $
             -- [the tokens; the cursor's last value; …; the word; the lender's part]: the lifetime ends, and the local has the cursor again
             split ! $ lft-end ! tt $ move ! (3 ∷ []) $ drop ! $ move ! (0 ∷ 4 ∷ 2 ∷ []) $
             use3 W (later (‵ (partAt T.the-row fullShare (zs .0) l 0))) (ref-back 𝓤 H A W T.the-row (α ∷ []) δ (zs .0) l 0) $ await ! tt $
-            use1 W (‵ (fat fullShare T′.mir l 0 (machine (zs .0 .at))) ⊛ ‵ (T.the-row .own (zs .0) (machine (zs .0 .at) ∷ []))) (unpacks 𝓤 H A W (zs .0 .at) l) $
+            use1 W (‵ (fat fullShare T′.mir l 0 (machine (zs .0 .at)))
+            ⊛ ‵ (T.the-row .own (zs .0) (machine (zs .0 .at) ∷ []))) (unpacks 𝓤 H A W (zs .0 .at) l) $
             split ! $ move ! (1 ∷ []) $ cursor-fits ! (zs .0) (λ fits′. k u r (zs .0 .at) found is fits′))))))))
