@@ -13,3 +13,4 @@ mod Combining
 mod Taking
 mod Reading
 pub mod Unique
+mod Lent

@@ -8,23 +8,24 @@ use native.Mathlib.Omega.{arith}
 use lib.ListN.{length, getD, set, length-set}
 use lib.Seq.{getD-set-same}
 use Rattle.meaning.specs.Expression.{Expr}
-use Rattle.meaning.specs.Number.{largestLabel, broken, readNumber}
+use Rattle.meaning.specs.Number.{largestLabel, readNumber}
 use Rattle.meaning.specs.TreeQuery.{node, Query, TreeQuery}
 use Rattle.meaning.specs.Gluing.{plain}
-use Rattle.meaning.specs.Word.{answered, andThen, Pending, takes, readWord}
+use Rattle.meaning.specs.Word.{answered, andThen, Pending, readWord}
 use Rattle.rows.specs.Rows.{labOf}
 use Rattle.theory.proofs.Plain.{TreeO, AtMost, RowsIn, plain-means, means-tree, few-nodes, plain-labels}
 use Rattle.theory.proofs.Limits.{InRange}
 use Rattle.theory.proofs.Accepted.{accepted}
 use Rattle.word.specs.Answer.{gotOf}
 use Rattle.word.specs.declared.number.Read.{Read}
-use Rattle.word.specs.declared.number.Read.the-variants.{Broken}
-use Rattle.word.proofs.Numbers.{NumberAt}
+use Rattle.word.specs.declared.number.Read.the-variants.{Number, Broken}
+use Rattle.word.specs.Cursor.{placePast}
+use Rattle.word.proofs.Numbers.{number-at}
 use Rattle.word.proofs.Run.{runFrom, nothingPending}
 use Rattle.word.proofs.Accepted.{accepted-start, accepted-end, accepted-number, accepted-sign}
 use Rattle.glue.specs.declared.gluing.Built.{Built}
 use Rattle.glue.specs.Rows.{parentOf, table, query, part, builtOf}
-use Rattle.glue.specs.Pool.{Pool, pool, operand, stack, Sound, Holds, Passes, PlainRows}
+use Rattle.glue.specs.Pool.{Pool, pool, operand, stack, Sound, Holds, Passes, Applies, PlainRows}
 use Rattle.glue.proofs.Codes.{parent-none, parent-some, length-table, at-table, row-table, live-below, rows-some}
 use Rattle.glue.proofs.Taking.{holds-length}
 
@@ -36,59 +37,58 @@ pub record Reading (w : List ℕ) (p : Pool) (n at : ℕ) : Type 0 where
   pub rest : runFrom w at st ≡ answered e
   pub holds : Holds p n st
 
--- the slices keep their lengths
-pub record SameLengths (p p′ : Pool) : Type 0 where
-  pub parents : length (p′ .parent) ≡ length (p .parent)
-  pub labels : length (p′ .label) ≡ length (p .label)
-  pub firsts : length (p′ .first) ≡ length (p .first)
-  pub marksS : length (p′ .s) ≡ length (p .s)
-  pub marksD : length (p′ .d) ≡ length (p .d)
+-- a number that was read is no broken one, and one alone
+pub number-broken : {sign next : ℕ} → Number sign next ≡ Broken → ⊥
+number-broken e = let z : _≡_ {A = ℕ} 0 1 = cc in omega arith
 
-pub reading-start : (w P L F S D : List ℕ) → (e : Expr) × (readWord w ≡ answered e)
-    → (512 ≤ length P) × (512 ≤ length L) × (257 ≤ length F) × (256 ≤ length S) × (256 ≤ length D) → Reading w (pool P L (set F 0 0) S D) 0 0
+pub number-same : {sign next sign′ next′ : ℕ} → Number sign next ≡ Number sign′ next′ → sign ≡ sign′
+number-same e = cc
+
+-- before the first sign
+pub holds-start : (P L F S D : List ℕ) → (512 ≤ length P) × (512 ≤ length L) × (257 ≤ length F) × (256 ≤ length S) × (256 ≤ length D)
+    → Holds (pool P L (set F 0 0) S D) 0 nothingPending
 unfolding stack
-reading-start w P L F S D (e, q) (lp, ll, lf, ls, ld) = record {
-  e = e;
-  word = q;
-  st = nothingPending;
-  rest = accepted-start w q;
-  holds = record {
-    stands = record {
-      sound = record {
-        parents = lp;
-        labels = ll;
-        firsts = rw length-set lf;
-        marksS = ls;
-        marksD = ld;
-        few = omega arith;
-        start = start;
-        up = λ k lt. absurd (omega arith);
-        end = λ k le. let z : k ≡ 0 = omega arith in rw (z, start) (omega arith);
-      };
-      holds = refl;
+holds-start P L F S D (lp, ll, lf, ls, ld) = record {
+  stands = record {
+    sound = record {
+      parents = lp;
+      labels = ll;
+      firsts = rw length-set lf;
+      marksS = ls;
+      marksD = ld;
+      few = omega arith;
+      start = start;
+      up = λ k lt. absurd (omega arith);
+      end = λ k le. let z : k ≡ 0 = omega arith in rw (z, start) (omega arith);
     };
-    count = refl;
-    few = omega arith;
+    holds = refl;
   };
+  count = refl;
+  few = omega arith;
 }
   where
     start : getD (set F 0 0) 0 0 ≡ 0
     start = getD-set-same F 0 0 0 (omega arith)
 
+pub reading-start : (w : List ℕ) (p : Pool) → ((e : Expr) × (readWord w ≡ answered e)) × Holds p 0 nothingPending → Reading w p 0 0
+reading-start w p ((e, q), h) = record { e = e; word = q; st = nothingPending; rest = accepted-start w q; holds = h }
+
 module _ (w : List ℕ) (p : Pool) (n at : ℕ) (d : Reading w p n at) where
-  -- no number of an accepted word is broken
-  pub reading-broken : {A : Type 0} {r : Read} → at < length w → gotOf at r ≡ readNumber w at → r ≡ Broken → A
-  reading-broken lt g e = absurd (accepted-number w at (d .st) (d .rest) lt (sym g ∙ ap (gotOf at) e))
+  -- no sign of an accepted word is refused
+  pub reading-passes : at < length w → {r : Read} → gotOf at r ≡ readNumber w at → (sign next : ℕ) → r ≡ Number sign next → Passes p n sign
+  reading-passes lt g sign next e = let (st′, t, rest) = accepted-sign w at (d .st) (d .rest) lt (number-at w at g e) in (d .st, st′, at, d .holds, t)
 
-  module _ {v next : ℕ} (lt : at < length w) (number : NumberAt w at v next) where
-    -- and no sign is refused
-    pub reading-passes : Passes p n v
-    reading-passes = let (st′, t, rest) = accepted-sign w at (d .st) (d .rest) lt number in (d .st, st′, at, d .holds, t)
+  -- and no number is broken: the place moves
+  pub reading-next : at < length w → (r : Read) → gotOf at r ≡ readNumber w at → (p′ : Pool) (n′ : ℕ) → ((sign next : ℕ) → r ≡ Number sign next → Applies p n sign p′ n′)
+      → Reading w p′ n′ (placePast at r) × (at < placePast at r)
+  reading-next lt (Number sign next) g p′ n′ f =
+      let number = number-at w at g refl in
+      let (st′, t, rest) = accepted-sign w at (d .st) (d .rest) lt number in
+      (record { e = d .e; word = d .word; st = st′; rest = rest; holds = f sign next refl (d .st) st′ at (d .holds) t }, number .moved)
+  reading-next lt Broken g p′ n′ f = absurd (accepted-number w at (d .st) (d .rest) lt (sym g))
 
-    pub reading-next : (p′ : Pool) (r : ℕ) → ((st st′ : Pending) (at : ℕ) → Holds p n st → takes v st at ≡ answered st′ → Holds p′ r st′) → Reading w p′ r next
-    reading-next p′ r f =
-        let (st′, t, rest) = accepted-sign w at (d .st) (d .rest) lt number in
-        record { e = d .e; word = d .word; st = st′; rest = rest; holds = f (d .st) st′ at (d .holds) t }
+  pub reading-last : length w ≤ at → (e : Expr) × (readWord w ≡ answered e) × ((st : Pending) × (st .operands ≡ e ∷ []) × Holds p n st)
+  reading-last le = (d .e, d .word, (d .st, accepted-end w at (d .st) (d .rest) le, d .holds))
 
 -- ------------------------------------------------------------------ what is built
 -- the rows of a tree query within the limits of an accepted word
@@ -150,30 +150,28 @@ module _ (r : Built) (P L : List ℕ) (lp : 512 ≤ length P) (ll : 512 ≤ leng
 same-head : {A : Type 0} (x y : A) (xs ys : List A) → x ∷ xs ≡ y ∷ ys → x ≡ y
 same-head x y xs ys e = cc
 
-pub reading-end : (w : List ℕ) (p : Pool) (n at : ℕ) → Reading w p n at → length w ≤ at → (rows s d : ℕ) → rows ≡ getD (p .first) 1 0 → s ≡ getD (p .s) 0 0
+pub reading-end : (w : List ℕ) (p : Pool) (n : ℕ) → (e : Expr) × (readWord w ≡ answered e) × ((st : Pending) × (st .operands ≡ e ∷ []) × Holds p n st)
+    → (rows s d : ℕ) → rows ≡ getD (p .first) 1 0 → s ≡ getD (p .s) 0 0
     → d ≡ getD (p .d) 0 0 → (andThen (readWord w) (λ e. answered (plain e)) ≡ answered (builtOf (record { rows = rows; s = s; d = d }) (p .parent) (p .label)))
     × PlainRows (record { rows = rows; s = s; d = d }) (p .parent) (p .label)
 unfolding stack part
-reading-end w p n at h le rows s d er es ed =
-    (rw (h .word) (ap answered built), plain-rows r (p .parent) (p .label) (sound .parents) (sound .labels) w (h .e) (h .word) built)
+reading-end w p n (e, word, (st, only, holds)) rows s d er es ed =
+    (rw word (ap answered built), plain-rows r (p .parent) (p .label) (sound .parents) (sound .labels) w e word built)
   where
     r : Built
     r = record { rows = rows; s = s; d = d }
 
     sound : Sound p n
-    sound = h .holds .stands .sound
-
-    only : h .st .operands ≡ h .e ∷ []
-    only = accepted-end w at (h .st) (h .rest) le
+    sound = holds .stands .sound
 
     one : n ≡ 1
-    one = let z = ap length only in let l = holds-length p n (h .st) (h .holds) in omega arith
+    one = let z = ap length only in let l = holds-length p n st holds in omega arith
 
-    latest : stack p 1 ≡ plain (h .e) ∷ []
-    latest = ap (stack p) (sym one) ∙ h .holds .stands .holds ∙ ap (map plain) only
+    latest : stack p 1 ≡ plain e ∷ []
+    latest = ap (stack p) (sym one) ∙ holds .stands .holds ∙ ap (map plain) only
 
-    built : plain (h .e) ≡ builtOf r (p .parent) (p .label)
+    built : plain e ≡ builtOf r (p .parent) (p .label)
     built =
-        let z = same-head (operand p 0) (plain (h .e)) [] [] latest in
+        let z = same-head (operand p 0) (plain e) [] [] latest in
         let f : getD (p .first) 1 0 - 0 ≡ rows = omega arith in
         sym z ∙ rw (sound .start, f, es, ed) refl

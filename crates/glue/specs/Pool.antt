@@ -95,6 +95,10 @@ pub record Holds (p : Pool) (n : ℕ) (st : Pending) : Type 0 where
 abbrev pub Passes : Pool → ℕ → ℕ → Type 0
 Passes p n sign = (st : Pending) × (st′ : Pending) × (at : ℕ) × Holds p n st × (takes sign st at ≡ answered st′)
 
+-- one sign: the pool p, which held the pending operands before it, is p′ after it
+abbrev pub Applies : Pool → ℕ → ℕ → Pool → ℕ → Type 0
+Applies p n sign p′ n′ = (st st′ : Pending) (at : ℕ) → Holds p n st → takes sign st at ≡ answered st′ → Holds p′ n′ st′
+
 -- ------------------------------------------------------------------ what is built
 -- the rows of r are a tree, or there are none; the marks are among them
 pub record PlainRows (r : Built) (P L : List ℕ) : Type 0 where

@@ -8,7 +8,8 @@ use crate::pool::exchange;
 use crate::pool::push_edge;
 use crate::pool::push_empty;
 use crate::pool::push_node;
-use word::cursor::sign_at;
+use word::cursor::Cursor;
+use word::cursor::read_sign;
 use word::number::Read;
 use word::sign::CHILD;
 use word::sign::COMPOSITION;
@@ -21,13 +22,15 @@ use word::sign::PARENT;
 use word::sign::SECOND_PROJECTION;
 use word::sign::SELF;
 ghost use mathlib.Core.Path.{_≡_};
+ghost use mathlib.Core.List.{[], _∷_};
 ghost use Prim.Native.Nat.{ℕ, _≤_};
 ghost use lib.ListN.{length};
 ghost use Rattle.meaning.specs.Expression.{Expr};
 ghost use Rattle.meaning.specs.Gluing.{plain};
-ghost use Rattle.meaning.specs.Word.{Pending, takes, answered, andThen, readWord};
+ghost use Rattle.meaning.specs.Word.{Pending, answered, andThen, readWord};
+ghost use Rattle.word.specs.declared.number.Read.the-variants.{Number};
 ghost use Rattle.glue.specs.Rows.{builtOf};
-ghost use Rattle.glue.specs.Pool.{pool, Holds, Passes, PlainRows};
+ghost use Rattle.glue.specs.Pool.{pool, Holds, Passes, Applies, PlainRows};
 
 // "9+L: label L", and the code of label L is L+1.
 const CODE_TO_SIGN: u32 = FIRST_LABEL - 1;
@@ -43,7 +46,7 @@ fn apply_sign(
     sign: u32,
 ) -> usize
     requires { ⌜ Passes (pool (now parent) (now label) (now first) (now s) (now d)) pending sign ⌝ }
-    ensures { λ r. ⌜ ((st st′ : Pending) (at : ℕ) → Holds (pool (now (parent .entry)) (now (label .entry)) (now (first .entry)) (now (s .entry)) (now (d .entry))) pending st → takes sign st at ≡ answered st′ → Holds (pool (now (parent .exit)) (now (label .exit)) (now (first .exit)) (now (s .exit)) (now (d .exit))) r st′) ⌝ }
+    ensures { λ r. ⌜ Applies (pool (now (parent .entry)) (now (label .entry)) (now (first .entry)) (now (s .entry)) (now (d .entry))) pending sign (pool (now (parent .exit)) (now (label .exit)) (now (first .exit)) (now (s .exit)) (now (d .exit))) r ⌝ }
 {
     match sign {
         EMPTY => push_empty(first, pending),
@@ -57,6 +60,47 @@ fn apply_sign(
         INVERSE => exchange(s, d, pending),
         _ => push_node(parent, label, first, s, d, pending, sign - CODE_TO_SIGN),
     }
+}
+
+// What was read where the next sign stands. No number of an accepted word is broken.
+fn apply_read(
+    parent: &mut [u16],
+    label: &mut [u32],
+    first: &mut [u16],
+    s: &mut [u16],
+    d: &mut [u16],
+    pending: usize,
+    read: Read,
+) -> usize
+    requires { ⌜ ((sign next : ℕ) → read ≡ Number sign next → Passes (pool (now parent) (now label) (now first) (now s) (now d)) pending sign) ⌝ }
+    ensures { λ r. ⌜ ((sign next : ℕ) → read ≡ Number sign next → Applies (pool (now (parent .entry)) (now (label .entry)) (now (first .entry)) (now (s .entry)) (now (d .entry))) pending sign (pool (now (parent .exit)) (now (label .exit)) (now (first .exit)) (now (s .exit)) (now (d .exit))) r) ⌝ }
+{
+    let Read::Number { value, next: _ } = read else {
+        return pending;
+    };
+    apply_sign(parent, label, first, s, d, pending, value)
+}
+
+// "One reading place moves through the word, sign by sign": one cursor, lent to the number reader for each sign. Gives the number of operands that are pending then.
+fn apply_signs(
+    word: &[u8],
+    parent: &mut [u16],
+    label: &mut [u32],
+    first: &mut [u16],
+    s: &mut [u16],
+    d: &mut [u16],
+) -> usize
+    requires { ⌜ ((e : Expr) × (readWord (now word) ≡ answered e)) × Holds (pool (now parent) (now label) (now first) (now s) (now d)) 0 (record { operands = []; steps = 0 }) ⌝ }
+    ensures { λ r. ⌜ ((e : Expr) × (readWord (now (word .entry)) ≡ answered e) × ((st : Pending) × (st .operands ≡ e ∷ []) × Holds (pool (now (parent .exit)) (now (label .exit)) (now (first .exit)) (now (s .exit)) (now (d .exit))) r st)) ⌝ }
+{
+    let end = word.len();
+    let mut cursor = Cursor { at: 0 };
+    let mut pending: usize = 0;
+    while cursor.at < end {
+        let read = read_sign(&mut cursor, word);
+        pending = apply_read(parent, label, first, s, d, pending, read);
+    }
+    pending
 }
 
 // The word is accepted, and the caller lends 512 rows, 257 starts of operands and 256 marks of each kind; what they hold before does not matter.
@@ -75,20 +119,7 @@ pub fn build(
     ensures { λ r. ⌜ PlainRows r (now (parent .exit)) (now (label .exit)) ⌝ }
 {
     first[0] = 0;
-    let mut pending: usize = 0;
-    let mut at: usize = 0;
-    while at < word.len() {
-        let Read::Number { value, next } = sign_at(word, at) else {
-            // no number of an accepted word is broken
-            return Built {
-                rows: 0,
-                s: 0,
-                d: 0,
-            };
-        };
-        pending = apply_sign(parent, label, first, s, d, pending, value);
-        at = next;
-    }
+    apply_signs(word, parent, label, first, s, d);
     Built {
         rows: entry(first, 1),
         s: entry(s, 0),

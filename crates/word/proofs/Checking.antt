@@ -20,7 +20,7 @@ use Rattle.word.specs.declared.whole.Turn.{Turn}
 use Rattle.word.specs.declared.whole.Turn.the-variants.{Next, Stop}
 use Rattle.word.proofs.Numbers.{number-at}
 use Rattle.word.proofs.Outcomes.{refused-answered}
-use Rattle.word.proofs.Run.{runFrom, nothingPending, run-long, run-start, run-end, run-broken, run-refused, run-sign}
+use Rattle.word.proofs.Run.{runFrom, nothingPending, run-long, run-end, run-broken, run-refused, run-sign}
 
 counting-answered : (o : Outcome Pending) {c : Counts} → answered c ≡ counting o → (st : Pending) × (o ≡ answered st) × (countsOf st ≡ c)
 counting-answered (answered st) e = (st, refl, (cc))

@@ -8,4 +8,5 @@ mod Outcomes
 mod Reading
 mod Counting
 mod Checking
-mod Lending
+pub mod Lending
+pub mod OneCursor

@@ -7,8 +7,3 @@ use Rattle.word.specs.declared.number.Read.the-variants.{Number, Broken}
 abbrev pub placePast : ℕ → Read → ℕ
 placePast at (Number value next) = next
 placePast at Broken = at
-
--- what was read, with another place after it
-abbrev pub atPlace : ℕ → Read → Read
-atPlace place (Number value next) = Number value place
-atPlace place Broken = Broken

@@ -11,18 +11,9 @@ use Rattle.word.proofs.whole.check_signs.Reads as check-signs-reads
 returns : tie.Need-returns
 returns c = checking-long _ (c .if1 .taken)
 
-check-signs-requires : tie.Need-check-signs-requires
-check-signs-requires c κs = search needs
-
-enum-known-counts : tie.Need-enum-known-counts
-enum-known-counts c = search needs
-
 -- accepted
 returns-2 : tie.Need-returns-2
 returns-2 c = checking-one _ _ (c .before .before .before .before .before .before .if1 .left) (c .before .before .before .before .before .check-signs .ensures) (c .before .before .before .counts .given .1) (c .if2 .taken)
-
-enum-known-number : tie.Need-enum-known-number
-enum-known-number c = search needs
 
 -- refusal 6
 returns-3 : tie.Need-returns-3
@@ -37,9 +28,9 @@ check-word-spec =
     tie.close
     (tie.spec
     returns
-    check-signs-requires
-    enum-known-counts
+    (λ c κs. search needs)
+    (λ c. search needs)
     returns-2
-    enum-known-number
+    (λ c. search needs)
     returns-3
     returns-4)

@@ -8,26 +8,11 @@ use Rattle.word.proofs.whole.take_read.Reads as reads
 use Rattle.word.proofs.whole.take_read.Lts as lts
 use Rattle.word.proofs.whole.take_sign.Reads as take-sign-reads
 
-enum-known-turn : tie.Need-enum-known-turn
-enum-known-turn c = search needs
-
-enum-told : tie.Need-enum-told
-enum-told c = search needs
-
 returns : tie.Need-returns
 returns c st e = absurd (going-stopped (sym e ∙ c .enum-told .given .1))
 
-enum-known-read : tie.Need-enum-known-read
-enum-known-read c = search needs
-
-enum-told-2 : tie.Need-enum-told-2
-enum-told-2 c = search needs
-
 returns-2 : tie.Need-returns-2
 returns-2 c st e = rw (c .enum-told2 .given .1)
-
-take-sign-requires : tie.Need-take-sign-requires
-take-sign-requires c κs = search needs
 
 returns-3 : tie.Need-returns-3
 returns-3 c st e =
@@ -37,11 +22,11 @@ pub take-read-spec : {M : Type 1} → statement M
 take-read-spec =
     tie.close
     (tie.spec
-    enum-known-turn
-    enum-told
+    (λ c. search needs)
+    (λ c. search needs)
     returns
-    enum-known-read
-    enum-told-2
+    (λ c. search needs)
+    (λ c. search needs)
     returns-2
-    take-sign-requires
+    (λ c κs. search needs)
     returns-3)
