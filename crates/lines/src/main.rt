@@ -2,6 +2,7 @@
 // it what the program writes for its word. A line that starts with `#` is a comment: it is written again and nothing more.
 use libc::STDIN_FILENO;
 use libc::STDOUT_FILENO;
+use report::LONGEST_TEXT;
 ghost use Prim.Native.Nat.{_≤_, _<_};
 ghost use lib.ListN.{length};
 
@@ -59,6 +60,13 @@ fn complain() {
     io::write_all(STDOUT_FILENO, b"no word\n");
 }
 
+// What the program writes for the word.
+fn write_text(word: &[u8]) {
+    let mut text = [0u8; LONGEST_TEXT];
+    let length = report::program_text(word, &mut text);
+    io::write_all(STDOUT_FILENO, &text[..length]);
+}
+
 // What the program writes for the word of the line, which has at most 4,097 bytes.
 fn report_line(line: &[u8]) {
     let mut word = [0u8; 4097];
@@ -84,7 +92,7 @@ fn report_line(line: &[u8]) {
             }
         }
     }
-    report::report(&word[..length]);
+    write_text(&word[..length]);
 }
 
 fn is_comment(line: &[u8]) -> bool {

@@ -1,8 +1,12 @@
-// The program: "It reads up to 4,097 bytes of standard input as one word" and reports it. A byte past the longest word is enough to refuse.
+// The program: "It reads up to 4,097 bytes of standard input as one word" and writes the text of it. A byte past the longest word is enough to refuse.
 use libc::STDIN_FILENO;
+use libc::STDOUT_FILENO;
+use report::LONGEST_TEXT;
 
 fn main() {
     let mut word = [0u8; 4097];
-    let n = io::read_full(STDIN_FILENO, &mut word);
-    report::report(&word[..n]);
+    let read = io::read_full(STDIN_FILENO, &mut word);
+    let mut text = [0u8; LONGEST_TEXT];
+    let length = report::program_text(&word[..read], &mut text);
+    io::write_all(STDOUT_FILENO, &text[..length]);
 }

@@ -1,3 +1,4 @@
 mod Text
 mod Forms
+pub mod Room
 pub mod Unique

@@ -1,5 +1,6 @@
 -- The answer is never a refusal, and the bytes that it counts are the form.
 use mathlib.Core.Path.{sym, ap}
+use lib.ListN.{length}
 use lib.Seq.{length-take-le}
 use Rattle.meaning.specs.Program.{line}
 use Rattle.groups.proofs.Put.{written-is}
@@ -37,7 +38,7 @@ put-named-requires c κs =
     let w = c .before .before .before .before .before .before .written in
     let (e, r) = s .pre .0 in
     let a = form-answered _ e r (s .args .form) (c .before .before .before .length .given .1) (w .ensures) (omega arith) in
-    rw (a .1) (s .pre .1)
+    omega (arith, ap (λ bytes. length (line (s .args .name .now) bytes)) (a .1))
 
 returns-2 : tie.Need-returns-2
 returns-2 c =
