@@ -1,5 +1,5 @@
 -- The text of a refused word is one line. Of an accepted word no form is refused into 2,048 bytes, and the text is their three lines.
-use mathlib.Core.Path.{_≡_, refl, sym, ap, _∙_}
+use mathlib.Core.Path.{_≡_, sym, ap, _∙_}
 use mathlib.Core.List.{List, _++_}
 use Prim.Native.Nat.{ℕ, _+_, _≤_}
 use native.Mathlib.Omega.{arith}
@@ -8,7 +8,7 @@ use lib.Seq.{take-at}
 use borrow.Author.Tests.{le-ltb}
 use Rattle.meaning.specs.Expression.{Expr}
 use Rattle.meaning.specs.Gluing.{plain}
-use Rattle.meaning.specs.Word.{Outcome, refused, answered, readWord}
+use Rattle.meaning.specs.Word.{answered, readWord}
 use Rattle.meaning.specs.Promise.{written, lengthOf, roomAfter, Writes}
 use Rattle.meaning.specs.Program.{line, plainName, minimalName, normalName, refusalLine, reported, programText}
 use Rattle.theory.proofs.Index.{images-short, form-accepted}
