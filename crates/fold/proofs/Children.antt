@@ -128,6 +128,18 @@ searched-stands : {code mark span up : List ℕ} {p : ℕ} {up′ : List ℕ} �
 searched-stands S W =
     record { some = S .some; codes = S .codes; marks = S .marks; spans = S .spans; ups = omega (arith, S .ups, W .long); few = S .few; held = S .held }
 
+-- of k listed rows, none of the first i folds onto another one
+abbrev pub Clear : List ℕ → List ℕ → List ℕ → List ℕ → List ℕ → ℕ → ℕ → Type 0
+Clear code mark span up child k i = (x : ℕ) → x < i → ¬ Foldable code mark span up child k x
+
+pub clear-on : {code mark span up child : List ℕ} {k i r : ℕ} → Clear code mark span up child k i → FirstFoldable code mark span up child i k r
+    → Clear code mark span up child k r
+clear-on {i = i} A F x l f = go (decLt x i)
+  where
+    go : Dec (x < i) → ⊥
+    go (yes m) = A x m f
+    go (no m) = F .before x l (omega arith) f
+
 -- the children that are left are listed
 module _ {code mark span up : List ℕ} {p : ℕ} {up′ : List ℕ} (S : Stands code mark span up p) (W : Searched code mark span up p up′)
     {child : List ℕ} {k : ℕ} (L : Listed span up′ p child k) where
@@ -145,8 +157,8 @@ module _ {code mark span up : List ℕ} {p : ℕ} {up′ : List ℕ} (S : Stands
   listed-inside i l = omega (arith, top-range span (suc p) (p + getD span p 0) (below span p) (S .held) _ (L .each i l .top), T .ups)
 
   -- none of them folds onto another one
-  pub searched-all : {i : ℕ} → FirstFoldable code mark span up′ child 0 k i → k ≤ i → ChildrenFolded code mark span up p up′
-  searched-all {i} F l =
+  pub searched-all : Clear code mark span up′ child k k → ChildrenFolded code mark span up p up′
+  searched-all A =
       record {
         to = W .equal .0;
         from = W .equal .1;
@@ -158,34 +170,23 @@ module _ {code mark span up : List ℕ} {p : ℕ} {up′ : List ℕ} (S : Stands
     where
       apart : (x y : ℕ) → ¬ (x ≡ y) → OntoRow code mark span up′ x y
           → (i : ℕ) × (i < k) × (getD child i 0 ≡ x) → (j : ℕ) × (j < k) × (getD child j 0 ≡ y) → ⊥
-      apart x y n o (i, a, b) (j, c, d) =
-          F .before i (omega arith) (omega arith) (j, c, λ e. n (sym b ∙ ap (λ h. getD child h 0) e ∙ d), rw (b, d) o)
-
-  -- where there is one child or none, there is no pair
-  pub searched-few : k < 2 → ChildrenFolded code mark span up p up′
-  searched-few l =
-      searched-all {i = k}
-      (record { begun = omega arith; until = omega arith; before = λ i a b f. f .2 (omega (arith, f .1)); here = λ n. absurd (omega arith) }) (omega arith)
+      apart x y n o (i, a, b) (j, c, d) = A i a (j, c, λ e. n (sym b ∙ ap (λ h. getD child h 0) e ∙ d), rw (b, d) o)
 
   -- the i-th folds onto another one and is taken out; m others are left
-  module _ {i m : ℕ} (F : FirstFoldable code mark span up′ child 0 k i) (q : k ≡ m + 1) (l : i < k)
-      {up″ child″ : List ℕ} (X : TakenOut up′ child i m up″ child″) where
-    pub goes : Searched code mark span up p up″ × Listed span up″ p child″ m
-    goes = rw (X .ups, X .list) (
+  module _ {i m : ℕ} (q : k ≡ m + 1) (l : i < k) {up″ child″ : List ℕ} (X : TakenOut up′ child i m up″ child″) where
+    pub goes : Foldable code mark span up′ child k i → Searched code mark span up p up″ × Listed span up″ p child″ m
+    goes (j, a, n, o) = rw (X .ups, X .list) (
       record {
         long = length-set up′ _ goneRow ∙ W .long;
         only = only-trans span p up up′ _ (W .only) (goes-only code mark span up′ p _ T (L .each i l));
         equal =
-            equal-trans (leftBelow code mark span up p) (leftBelow code mark span up′ p) (leftBelow code mark span _ p) (W .equal) (equal (F .here l));
+            equal-trans (leftBelow code mark span up p) (leftBelow code mark span up′ p) (leftBelow code mark span _ p) (W .equal)
+            (goes-equal code mark span up′ p _ T (L .each i l) _ (L .each j a) (λ e. n (L .once i j l a e)) o);
       },
       lists-less q i (omega arith) L
           (λ x c n. record { top = c .top; there = getD-set-other up′ _ x goneRow 0 n ∙ c .there })
           (λ x c. let w = was code mark span up′ p _ T (L .each i l) x (c .there) in (record { top = c .top; there = w .1 }, w .0)),
     )
-      where
-        equal : Foldable code mark span up′ child k i
-            → Equal (leftBelow code mark span up′ p) (leftBelow code mark span (set up′ (getD child i 0) goneRow) p)
-        equal (j, a, n, o) = goes-equal code mark span up′ p _ T (L .each i l) _ (L .each j a) (λ e. n (L .once i j l a e)) o
 
     -- what folds onto another one now did so before
     folded : (j : ℕ) → j < i → Foldable code mark span (set up′ (getD child i 0) goneRow) (set child i (getD child m 0)) m j
@@ -202,9 +203,5 @@ module _ {code mark span up : List ℕ} {p : ℕ} {up′ : List ℕ} (S : Stands
         other (inr (e, d)) z = omega arith
 
     -- so the search goes on from the i-th place
-    pub goes-on : {r : ℕ} → FirstFoldable code mark span up″ child″ i m r → FirstFoldable code mark span up″ child″ 0 m r
-    goes-on {r} G = record { begun = omega arith; until = G .until; before = λ j a b. before j a (decLt j i); here = G .here }
-      where
-        before : (j : ℕ) → j < r → Dec (j < i) → ¬ Foldable code mark span up″ child″ m j
-        before j a (yes b) f = F .before j b (omega arith) (folded j b (rw (X .ups, X .list) at f))
-        before j a (no b) f = G .before j a (omega arith) f
+    pub goes-clear : Clear code mark span up′ child k i → Clear code mark span up″ child″ m i
+    goes-clear A x b f = A x b (folded x b (rw (X .ups, X .list) at f))

@@ -170,10 +170,11 @@ fn first_foldable(
 {
     let mut i = from;
     'pair: while i < k {
+        let u = child_at(child, i);
         let mut j: usize = 0;
         while j < k {
             if i != j {
-                if folds_onto(code, mark, span, up, child_at(child, i), child_at(child, j)) {
+                if folds_onto(code, mark, span, up, u, child_at(child, j)) {
                     break 'pair;
                 }
             }
@@ -210,11 +211,13 @@ fn fold_children(
     if k < 2 {
         return;
     }
-    let mut i = first_foldable(code, mark, span, up, child, 0, k);
+    let mut i: usize = 0;
     while i < k {
-        k -= 1;
-        take_out(up, child, i, k);
         i = first_foldable(code, mark, span, up, child, i, k);
+        if i < k {
+            k -= 1;
+            take_out(up, child, i, k);
+        }
     }
 }
 

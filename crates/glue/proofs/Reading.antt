@@ -25,7 +25,7 @@ use Rattle.word.proofs.Run.{runFrom, nothingPending}
 use Rattle.word.proofs.Accepted.{accepted-start, accepted-end, accepted-number, accepted-sign}
 use Rattle.glue.specs.declared.gluing.Built.{Built}
 use Rattle.glue.specs.Rows.{parentOf, table, query, part, builtOf}
-use Rattle.glue.specs.Pool.{Pool, pool, operand, stack, Sound, Holds, Passes, Applies, PlainRows}
+use Rattle.glue.specs.Pool.{Pool, pool, operand, stack, Sound, Holds, HoldsNone, HoldsOnly, Passes, Applies, PlainRows}
 use Rattle.glue.proofs.Codes.{parent-none, parent-some, length-table, at-table, row-table, live-below, rows-some}
 use Rattle.glue.proofs.Taking.{holds-length}
 
@@ -46,7 +46,7 @@ number-same e = cc
 
 -- before the first sign
 pub holds-start : (P L F S D : List ℕ) → (512 ≤ length P) × (512 ≤ length L) × (257 ≤ length F) × (256 ≤ length S) × (256 ≤ length D)
-    → Holds (pool P L (set F 0 0) S D) 0 nothingPending
+    → HoldsNone (pool P L (set F 0 0) S D)
 unfolding stack
 holds-start P L F S D (lp, ll, lf, ls, ld) = record {
   stands = record {
@@ -70,7 +70,7 @@ holds-start P L F S D (lp, ll, lf, ls, ld) = record {
     start : getD (set F 0 0) 0 0 ≡ 0
     start = getD-set-same F 0 0 0 (omega arith)
 
-pub reading-start : (w : List ℕ) (p : Pool) → ((e : Expr) × (readWord w ≡ answered e)) × Holds p 0 nothingPending → Reading w p 0 0
+pub reading-start : (w : List ℕ) (p : Pool) → ((e : Expr) × (readWord w ≡ answered e)) × HoldsNone p → Reading w p 0 0
 reading-start w p ((e, q), h) = record { e = e; word = q; st = nothingPending; rest = accepted-start w q; holds = h }
 
 module _ (w : List ℕ) (p : Pool) (n at : ℕ) (d : Reading w p n at) where
@@ -87,8 +87,12 @@ module _ (w : List ℕ) (p : Pool) (n at : ℕ) (d : Reading w p n at) where
       (record { e = d .e; word = d .word; st = st′; rest = rest; holds = f sign next refl (d .st) st′ at (d .holds) t }, number .moved)
   reading-next lt Broken g p′ n′ f = absurd (accepted-number w at (d .st) (d .rest) lt (sym g))
 
-  pub reading-last : length w ≤ at → (e : Expr) × (readWord w ≡ answered e) × ((st : Pending) × (st .operands ≡ e ∷ []) × Holds p n st)
-  reading-last le = (d .e, d .word, (d .st, accepted-end w at (d .st) (d .rest) le, d .holds))
+  pub reading-last : length w ≤ at → (e : Expr) × (readWord w ≡ answered e) × HoldsOnly p e
+  reading-last le =
+      let only = accepted-end w at (d .st) (d .rest) le in
+      let l = holds-length p n (d .st) (d .holds) in
+      let z = ap length only in
+      (d .e, d .word, (d .st, only, subst (λ k. Holds p k (d .st)) (let one : n ≡ 1 = omega arith in one) (d .holds)))
 
 -- ------------------------------------------------------------------ what is built
 -- the rows of a tree query within the limits of an accepted word
@@ -150,25 +154,22 @@ module _ (r : Built) (P L : List ℕ) (lp : 512 ≤ length P) (ll : 512 ≤ leng
 same-head : {A : Type 0} (x y : A) (xs ys : List A) → x ∷ xs ≡ y ∷ ys → x ≡ y
 same-head x y xs ys e = cc
 
-pub reading-end : (w : List ℕ) (p : Pool) (n : ℕ) → (e : Expr) × (readWord w ≡ answered e) × ((st : Pending) × (st .operands ≡ e ∷ []) × Holds p n st)
+pub reading-end : (w : List ℕ) (p : Pool) → (e : Expr) × (readWord w ≡ answered e) × HoldsOnly p e
     → (rows s d : ℕ) → rows ≡ getD (p .first) 1 0 → s ≡ getD (p .s) 0 0
     → d ≡ getD (p .d) 0 0 → (andThen (readWord w) (λ e. answered (plain e)) ≡ answered (builtOf (record { rows = rows; s = s; d = d }) (p .parent) (p .label)))
     × PlainRows (record { rows = rows; s = s; d = d }) (p .parent) (p .label)
 unfolding stack part
-reading-end w p n (e, word, (st, only, holds)) rows s d er es ed =
+reading-end w p (e, word, (st, only, holds)) rows s d er es ed =
     (rw word (ap answered built), plain-rows r (p .parent) (p .label) (sound .parents) (sound .labels) w e word built)
   where
     r : Built
     r = record { rows = rows; s = s; d = d }
 
-    sound : Sound p n
+    sound : Sound p 1
     sound = holds .stands .sound
 
-    one : n ≡ 1
-    one = let z = ap length only in let l = holds-length p n st holds in omega arith
-
     latest : stack p 1 ≡ plain e ∷ []
-    latest = ap (stack p) (sym one) ∙ holds .stands .holds ∙ ap (map plain) only
+    latest = holds .stands .holds ∙ ap (map plain) only
 
     built : plain e ≡ builtOf r (p .parent) (p .label)
     built =

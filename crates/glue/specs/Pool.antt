@@ -95,6 +95,13 @@ pub record Holds (p : Pool) (n : ℕ) (st : Pending) : Type 0 where
 abbrev pub Passes : Pool → ℕ → ℕ → Type 0
 Passes p n sign = (st : Pending) × (st′ : Pending) × (at : ℕ) × Holds p n st × (takes sign st at ≡ answered st′)
 
+-- before the first sign, and after the last sign of an accepted word
+abbrev pub HoldsNone : Pool → Type 0
+HoldsNone p = Holds p 0 (record { operands = []; steps = 0 })
+
+abbrev pub HoldsOnly : Pool → Expr → Type 0
+HoldsOnly p e = (st : Pending) × (st .operands ≡ e ∷ []) × Holds p 1 st
+
 -- one sign: the pool p, which held the pending operands before it, is p′ after it
 abbrev pub Applies : Pool → ℕ → ℕ → Pool → ℕ → Type 0
 Applies p n sign p′ n′ = (st st′ : Pending) (at : ℕ) → Holds p n st → takes sign st at ≡ answered st′ → Holds p′ n′ st′

@@ -22,15 +22,14 @@ use word::sign::PARENT;
 use word::sign::SECOND_PROJECTION;
 use word::sign::SELF;
 ghost use mathlib.Core.Path.{_≡_};
-ghost use mathlib.Core.List.{[], _∷_};
 ghost use Prim.Native.Nat.{ℕ, _≤_};
 ghost use lib.ListN.{length};
 ghost use Rattle.meaning.specs.Expression.{Expr};
 ghost use Rattle.meaning.specs.Gluing.{plain};
-ghost use Rattle.meaning.specs.Word.{Pending, answered, andThen, readWord};
+ghost use Rattle.meaning.specs.Word.{answered, andThen, readWord};
 ghost use Rattle.word.specs.declared.number.Read.the-variants.{Number};
 ghost use Rattle.glue.specs.Rows.{builtOf};
-ghost use Rattle.glue.specs.Pool.{pool, Holds, Passes, Applies, PlainRows};
+ghost use Rattle.glue.specs.Pool.{pool, Passes, Applies, HoldsNone, HoldsOnly, PlainRows};
 
 // "9+L: label L", and the code of label L is L+1.
 const CODE_TO_SIGN: u32 = FIRST_LABEL - 1;
@@ -46,7 +45,8 @@ fn apply_sign(
     sign: u32,
 ) -> usize
     requires { ⌜ Passes (pool (now parent) (now label) (now first) (now s) (now d)) pending sign ⌝ }
-    ensures { λ r. ⌜ Applies (pool (now (parent .entry)) (now (label .entry)) (now (first .entry)) (now (s .entry)) (now (d .entry))) pending sign (pool (now (parent .exit)) (now (label .exit)) (now (first .exit)) (now (s .exit)) (now (d .exit))) r ⌝ }
+    ensures { λ r. ⌜ Applies (pool (now (parent .entry)) (now (label .entry)) (now (first .entry)) (now (s .entry)) (now (d .entry))) pending sign
+        (pool (now (parent .exit)) (now (label .exit)) (now (first .exit)) (now (s .exit)) (now (d .exit))) r ⌝ }
 {
     match sign {
         EMPTY => push_empty(first, pending),
@@ -73,7 +73,9 @@ fn apply_read(
     read: Read,
 ) -> usize
     requires { ⌜ ((sign next : ℕ) → read ≡ Number sign next → Passes (pool (now parent) (now label) (now first) (now s) (now d)) pending sign) ⌝ }
-    ensures { λ r. ⌜ ((sign next : ℕ) → read ≡ Number sign next → Applies (pool (now (parent .entry)) (now (label .entry)) (now (first .entry)) (now (s .entry)) (now (d .entry))) pending sign (pool (now (parent .exit)) (now (label .exit)) (now (first .exit)) (now (s .exit)) (now (d .exit))) r) ⌝ }
+    ensures { λ r. ⌜ ((sign next : ℕ) → read ≡ Number sign next
+        → Applies (pool (now (parent .entry)) (now (label .entry)) (now (first .entry)) (now (s .entry)) (now (d .entry))) pending sign
+        (pool (now (parent .exit)) (now (label .exit)) (now (first .exit)) (now (s .exit)) (now (d .exit))) r) ⌝ }
 {
     let Read::Number { value, next: _ } = read else {
         return pending;
@@ -81,7 +83,8 @@ fn apply_read(
     apply_sign(parent, label, first, s, d, pending, value)
 }
 
-// "One reading place moves through the word, sign by sign": one cursor, lent to the number reader for each sign. Gives the number of operands that are pending then.
+// "One reading place moves through the word, sign by sign": one cursor, lent to the number reader for each sign.
+// After the last sign of an accepted word its expression alone is pending.
 fn apply_signs(
     word: &[u8],
     parent: &mut [u16],
@@ -89,9 +92,10 @@ fn apply_signs(
     first: &mut [u16],
     s: &mut [u16],
     d: &mut [u16],
-) -> usize
-    requires { ⌜ ((e : Expr) × (readWord (now word) ≡ answered e)) × Holds (pool (now parent) (now label) (now first) (now s) (now d)) 0 (record { operands = []; steps = 0 }) ⌝ }
-    ensures { λ r. ⌜ ((e : Expr) × (readWord (now (word .entry)) ≡ answered e) × ((st : Pending) × (st .operands ≡ e ∷ []) × Holds (pool (now (parent .exit)) (now (label .exit)) (now (first .exit)) (now (s .exit)) (now (d .exit))) r st)) ⌝ }
+)
+    requires { ⌜ ((e : Expr) × (readWord (now word) ≡ answered e)) × HoldsNone (pool (now parent) (now label) (now first) (now s) (now d)) ⌝ }
+    ensures { λ _. ⌜ ((e : Expr) × (readWord (now (word .entry)) ≡ answered e)
+        × HoldsOnly (pool (now (parent .exit)) (now (label .exit)) (now (first .exit)) (now (s .exit)) (now (d .exit))) e) ⌝ }
 {
     let end = word.len();
     let mut cursor = Cursor { at: 0 };
@@ -100,7 +104,6 @@ fn apply_signs(
         let read = read_sign(&mut cursor, word);
         pending = apply_read(parent, label, first, s, d, pending, read);
     }
-    pending
 }
 
 // The word is accepted, and the caller lends 512 rows, 257 starts of operands and 256 marks of each kind; what they hold before does not matter.

@@ -1,5 +1,5 @@
--- The first foldable pair: of the listed children from `from` up to i none folds onto another one; the inner loop has shown that the i-th folds onto none
--- that is listed before place j. Both loops are left at the pair.
+-- The first foldable pair: of the listed children from `from` up to i none folds onto another one; the inner loop has shown that the i-th, row u, folds
+-- onto none that is listed before place j. Both loops are left at the pair.
 use Prim.Native.Nat.{ℕ, _≤_, _<_, _-_}
 use mathlib.Core.Path.{_≡_}
 use mathlib.Core.Logic.{⊎-elim}
@@ -13,10 +13,10 @@ use Rattle.fold.proofs.first_foldable.Statement.{statement}
 use Rattle.fold.proofs.first_foldable.Tie as tie
 
 abbrev Inv-loop : tie.InvT-loop
-Inv-loop code mark span up child from k i j₀ j = (j ≤ k) × ((y : ℕ) → y < j → ¬ (i ≡ y) → ¬ OntoRow code mark span up (getD child i 0) (getD child y 0))
+Inv-loop code mark span up child from k i u j₀ j = (j ≤ k) × ((y : ℕ) → y < j → ¬ (i ≡ y) → ¬ OntoRow code mark span up u (getD child y 0))
 
 abbrev μ-loop : tie.MeasureT-loop
-μ-loop code mark span up child from k i j₀ j = k - j
+μ-loop code mark span up child from k i u j₀ j = k - j
 
 abbrev Inv-pair : tie.InvT-pair
 Inv-pair code mark span up child from k i₀ i =
@@ -34,23 +34,23 @@ loop-holds c = (omega arith, λ y l. absurd (omega arith))
 folds-onto-requires : tie.Need-folds-onto-requires Inv-loop μ-loop Inv-pair μ-pair
 folds-onto-requires c κs =
     let p = c .before .before .before .before .before .before .before .before .before .before .before .before .pre .stand in
-    let i = c .before .before .before .before .before .pair-test .taken in
-    (rw (c .before .child-at .ensures) (p _ i), rw (c .child-at2 .ensures) (p _ (c .before .before .before .loop-test .taken)))
+    let u = c .before .before .before .before in
+    (rw (u .child-at .ensures) (p _ (u .before .pair-test .taken)), rw (c .child-at2 .ensures) (p _ (c .before .before .loop-test .taken)))
 
 loop-again : tie.Need-loop-again Inv-loop μ-loop Inv-pair μ-pair
 loop-again c = (
   omega arith,
   below-more _ _ (c .before .before .loop .inv .1)
-      (⊎-elim (λ w n. rw (w .1 .ensures, w .2 .ensures) at (false-onto _ _ _ _ _ _ (w .3 .ensures) (w .4 .left))) (λ w n. absurd (n (w .left))) (c .if1 .came)),
+      (⊎-elim (λ w n. rw (w .1 .ensures) at (false-onto _ _ _ _ _ _ (w .2 .ensures) (w .3 .left))) (λ w n. absurd (n (w .left))) (c .if1 .came)),
 )
 
 pair-again : tie.Need-pair-again Inv-loop μ-loop Inv-pair μ-pair
 pair-again c =
-    let v = c .before .before .before .pair .inv in
+    let v = c .before .before .before .before .pair .inv in
     let w = c .before .loop .inv .1 in (
       omega (arith, v .0),
-      omega (arith, c .before .before .pair-test .taken),
-      below-more _ _ (v .2) (λ l f. w (f .0) (omega (arith, f .1)) (f .2) (f .3)),
+      omega (arith, c .before .before .before .pair-test .taken),
+      below-more _ _ (v .2) (λ l f. w (f .0) (omega (arith, f .1)) (f .2) (rw (c .before .before .child-at .ensures) (f .3))),
     )
 
 returns : tie.Need-returns Inv-loop μ-loop Inv-pair μ-pair
@@ -67,9 +67,10 @@ returns-2 c =
       before = v .2;
       here = λ l. (
         _,
-        c .before .before .before .before .before .loop-test .taken,
-        c .before .before .before .before .if1 .taken,
-        rw (c .before .before .before .child-at .ensures, c .before .before .child-at2 .ensures) at (true-onto _ _ _ _ _ _ (c .before .folds-onto .ensures) (c .if2 .taken)),
+        c .before .before .before .before .loop-test .taken,
+        c .before .before .before .if1 .taken,
+        rw (c .before .before .before .before .before .before .child-at .ensures, c .before .before .child-at2 .ensures)
+            at (true-onto _ _ _ _ _ _ (c .before .folds-onto .ensures) (c .if2 .taken)),
       );
     }
 
@@ -82,8 +83,8 @@ first-foldable-spec =
     Inv-pair
     μ-pair
     pair-holds
-    loop-holds
     (λ c κs. search needs)
+    loop-holds
     (λ c κs. search needs)
     folds-onto-requires
     (λ c. search needs)

@@ -17,7 +17,7 @@ same-length-3 : tie.Need-same-length-3
 same-length-3 c = c .before .before .before .before .before .before .before .before .before .before .before .before .before .before .before .before .apply-signs .kept .1 .1 .1 .0 ∙ length-set (c .before .before .before .before .before .before .before .before .before .before .before .before .before .before .before .before .before .before .before .before .before .before .before .before .before .before .before .before .args .first .now) 0 0
 
 returns : tie.Need-returns
-returns c = reading-end _ _ _ (c .before .before .before .before .before .before .before .before .before .before .before .before .before .before .before .before .apply-signs .ensures) _ _ _ (c .before .before .before .before .entry .ensures .0) (c .before .before .entry2 .ensures .0) (c .entry3 .ensures .0)
+returns c = reading-end _ _ (c .before .before .before .before .before .before .before .before .before .before .before .before .before .before .before .before .apply-signs .ensures) _ _ _ (c .before .before .before .before .entry .ensures .0) (c .before .before .entry2 .ensures .0) (c .entry3 .ensures .0)
 
 pub build-spec : {M : Type 1} → statement M
 build-spec =
