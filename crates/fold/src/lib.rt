@@ -129,7 +129,7 @@ fn folds_onto(code: &[u32], mark: &[u8], span: &[u16], up: &[u16], u: usize, v: 
     children_fold(code, mark, span, up, u, v)
 }
 
-// Lists the children of row p that are still there. Returns how many there are. Each row is stored and only then counted, which spares a branch.
+// Lists the children of row p that are still there. Returns how many there are. A row is stored first and then counted, which spares a branch.
 fn list_children(span: &[u16], up: &[u16], p: usize, child: &mut [u16]) -> usize
     requires { ⌜ Listable (now span) (now up) p (now child) ⌝ }
     ensures { λ r. ⌜ Listed (now (span .entry)) (now (up .entry)) p (now (child .exit)) r ⌝ }
@@ -155,7 +155,7 @@ fn child_at(child: &[u16], i: usize) -> usize
     wide(child[i])
 }
 
-// The first of the k listed children, from the one at `from` on, that folds onto another of them: its place, and k where there is none.
+// The first foldable pair: the place of the first of k listed children, from place `from` on, that folds onto another of them, or k where there is none.
 fn first_foldable(
     code: &[u32],
     mark: &[u8],
@@ -194,7 +194,7 @@ fn take_out(up: &mut [u16], child: &mut [u16], i: usize, k: usize)
     child[i] = child[k];
 }
 
-// Each child of row p that folds onto another one goes. Behind it the search goes on from its place: what did not fold before does not fold now.
+// Each child of row p that folds onto another one goes. The search goes on from its place in the list: what did not fold before does not fold after.
 fn fold_children(
     code: &[u32],
     mark: &[u8],
