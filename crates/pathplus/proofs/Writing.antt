@@ -1,13 +1,13 @@
 -- The three ways out of a writer: the word is refused, the room is too short, the answer is written.
-use mathlib.Core.Path.{_≡_, refl, sym, ap, subst, _∙_}
+use mathlib.Core.Path.{_≡_, sym, ap, _∙_}
 use mathlib.Core.Bool.{Bool, true, false, cond}
 use mathlib.Core.Option.{Option}
-use mathlib.Core.List.{List, _++_}
+use mathlib.Core.List.{List}
 use Prim.Native.Nat.{ℕ, _≤_, _<_}
 use native.Mathlib.Omega.{arith}
-use lib.ListN.{length, drop}
+use lib.ListN.{length}
 use lib.Dec.{ltb}
-use borrow.Author.Tests.{lt-ltb, le-ltb, ltb-false}
+use borrow.Author.Tests.{lt-ltb, le-ltb}
 use Rattle.meaning.specs.Expression.{Expr}
 use Rattle.meaning.specs.TreeQuery.{Query}
 use Rattle.meaning.specs.Gluing.{plain}
@@ -15,7 +15,6 @@ use Rattle.meaning.specs.Word.{Outcome, refused, answered, andThen, readWord}
 use Rattle.meaning.specs.Promise.{fitting, written, lengthOf, roomAfter, Writes}
 use Rattle.groups.specs.Put.{put}
 use Rattle.groups.proofs.Put.{put-front}
-use Rattle.tree.proofs.Laws.{answered-same}
 use Rattle.pathplus.specs.Answer.{Fitted}
 
 module _ (form : Option Query → List ℕ) (word room : List ℕ) where
@@ -56,16 +55,3 @@ module _ (bytes room : List ℕ) where
       let fits : length bytes ≤ length room = omega arith in
       let s = fitting-is false (le-ltb (length room) (length bytes) fits) in
       record { returned = ap answered ek ∙ sym (ap lengthOf s); left = ea ∙ put-front room bytes fits ∙ sym (ap (roomAfter room) s) }
-
--- what a writer says it has written is in the room
-pub done-fits : (form : Option Query → List ℕ) (word room : List ℕ) (k : ℕ) (after : List ℕ) → Writes form word room (answered k) after → k ≤ length room
-unfolding written
-done-fits form word room k after w = go (readWord word) (w .returned)
-  where
-    same : (b : Bool) (bytes : List ℕ) → ltb (length room) (length bytes) ≡ b → answered k ≡ lengthOf (cond b (refused 7 (length bytes)) (answered bytes)) → k ≤ length room
-    same true bytes t e = let z : _≡_ {A = ℕ} 0 1 = cc in absurd (omega arith)
-    same false bytes t e = let z : k ≡ length bytes = answered-same k (length bytes) e in let l = ltb-false (length room) (length bytes) t in omega arith
-
-    go : (o : Outcome Expr) → answered k ≡ lengthOf (andThen o (λ e. fitting room (form (plain e)))) → k ≤ length room
-    go (refused n p) e = let z : _≡_ {A = ℕ} 0 1 = cc in absurd (omega arith)
-    go (answered f) e = same (ltb (length room) (length (form (plain f)))) (form (plain f)) refl e
