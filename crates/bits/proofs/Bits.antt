@@ -14,6 +14,7 @@ use lib.Pow.{pow-lt, pow-add, shl-shr, shl-exact, shr-shr}
 use lib.Bits.{bitAnd, bitOr, and-mask, and-shr, and-mod, or-shr, or-mod, or-zero-r}
 use borrow.Author.Tests.{eq-eqb, ne-eqb, eqb-true, not-true}
 use Rattle.meaning.specs.Matching.{bitAt}
+use Rattle.theory.proofs.Look.{never}
 use Rattle.bits.specs.Bits.{bitOf, allTo, rowClear, BitKept, OnlyRow, BitSet, Sifted, Met, Cleared}
 
 -- ------------------------------------------------------------------ bits of a byte
@@ -88,7 +89,7 @@ zero-bit k = rw (zero-div (2 ^ k))
 -- ------------------------------------------------------------------ a byte sifted bit by bit
 both : (x y : Bool) → (x && y) ≡ true → (x ≡ true) × (y ≡ true)
 both true y e = (refl, e)
-both false y e = let z : _≡_ {A = ℕ} 0 1 = cc in absurd (omega arith)
+both false y e = never cc
 
 all-to : (n : ℕ) (f : ℕ → Bool) → allTo n f ≡ true → (k : ℕ) → k < n → f k ≡ true
 unfolding allTo

@@ -15,6 +15,7 @@ use Rattle.meaning.specs.Tree.{Forest, bare, tree}
 use Rattle.meaning.specs.Folding.{LabLe, MarkLe, TagLe, Folds, Onto, decLab, decMark, decTag, decFolds, decOnto}
 use Rattle.rows.specs.Rows.{labOf, tagAt, below, Holds}
 use Rattle.rows.proofs.Rows.{Opens, holds-first}
+use Rattle.theory.proofs.Look.{never}
 use Rattle.fold.specs.Kept.{leftBelow, marksFit, fitsChild, belowFold, OntoRow, ontoRow, height, Stands, Top}
 use Rattle.fold.proofs.Brothers.{Over, Lands, over-start, over-child, over-step, over-next, over-all, any-of-row, row-of-any, folds-of-rows, row-of-folds}
 
@@ -29,10 +30,10 @@ is-no (no n) m = refl
 
 true-is : {P : Type 0} (d : Dec P) → is d ≡ true → P
 true-is (yes p) e = p
-true-is (no n) e = let z : _≡_ {A = Bool} false true = e in let y : _≡_ {A = ℕ} 0 1 = cc in absurd (omega arith)
+true-is (no n) e = let z : _≡_ {A = Bool} false true = e in never cc
 
 false-is : {P : Type 0} (d : Dec P) → is d ≡ false → ¬ P
-false-is (yes p) e = let z : _≡_ {A = Bool} true false = e in let y : _≡_ {A = ℕ} 0 1 = cc in absurd (omega arith)
+false-is (yes p) e = let z : _≡_ {A = Bool} true false = e in never cc
 false-is (no n) e = n
 
 -- the first of two is so: the second tells

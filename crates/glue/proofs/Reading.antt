@@ -23,6 +23,7 @@ use Rattle.word.specs.Cursor.{placePast}
 use Rattle.word.proofs.Numbers.{number-at}
 use Rattle.word.proofs.Run.{runFrom, nothingPending}
 use Rattle.word.proofs.Accepted.{accepted-start, accepted-end, accepted-number, accepted-sign}
+use Rattle.theory.proofs.Look.{never}
 use Rattle.glue.specs.declared.gluing.Built.{Built}
 use Rattle.glue.specs.Rows.{parentOf, table, query, part, builtOf}
 use Rattle.glue.specs.Pool.{Pool, pool, operand, stack, Sound, Holds, HoldsNone, HoldsOnly, Passes, Applies, PlainRows}
@@ -39,7 +40,7 @@ pub record Reading (w : List ℕ) (p : Pool) (n at : ℕ) : Type 0 where
 
 -- a number that was read is no broken one, and one alone
 pub number-broken : {sign next : ℕ} → Number sign next ≡ Broken → ⊥
-number-broken e = let z : _≡_ {A = ℕ} 0 1 = cc in omega arith
+number-broken e = never cc
 
 pub number-same : {sign next sign′ next′ : ℕ} → Number sign next ≡ Number sign′ next′ → sign ≡ sign′
 number-same e = cc

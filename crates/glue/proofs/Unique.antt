@@ -14,6 +14,7 @@ use Rattle.meaning.specs.Word.{Outcome, answered}
 use Rattle.rows.specs.Rows.{labOf, noRow}
 use Rattle.rows.proofs.Rows.{lab-code}
 use Rattle.rows.proofs.Unique.{SameBelow}
+use Rattle.theory.proofs.Look.{never}
 use Rattle.glue.specs.declared.gluing.Built.{Built}
 use Rattle.glue.specs.Rows.{parentOf, rowAt, table, ifRows, query, builtOf}
 use Rattle.glue.proofs.Codes.{parent-none, parent-some, length-table, at-table}
@@ -23,8 +24,8 @@ parent-same p q e = go (ℕ-discrete p noRow) (ℕ-discrete q noRow)
   where
     go : Dec (p ≡ noRow) → Dec (q ≡ noRow) → p ≡ q
     go (yes a) (yes b) = a ∙ sym b
-    go (yes a) (no b) = absurd (let z : _≡_ {A = ℕ} 0 1 = cc (sym (parent-none p a) ∙ e ∙ parent-some q b) in omega arith)
-    go (no a) (yes b) = absurd (let z : _≡_ {A = ℕ} 0 1 = cc (sym (parent-some p a) ∙ e ∙ parent-none q b) in omega arith)
+    go (yes a) (no b) = never (cc (sym (parent-none p a) ∙ e ∙ parent-some q b))
+    go (no a) (yes b) = never (cc (sym (parent-some p a) ∙ e ∙ parent-none q b))
     go (no a) (no b) = let z : some p ≡ some q = sym (parent-some p a) ∙ e ∙ parent-some q b in cc
 
 lab-same : (c k : ℕ) → labOf c ≡ labOf k → c ≡ k
@@ -43,8 +44,8 @@ built-unique o r r′ P L P′ L′ p q = go (r .rows) (r′ .rows) (let z : ans
     go : (n m : ℕ) → ifRows n (query n P L (r .s) (r .d)) ≡ ifRows m (query m P′ L′ (r′ .s) (r′ .d))
         → (n ≡ m) × (n ≢ 0 → (r .s ≡ r′ .s) × (r .d ≡ r′ .d)) × SameBelow n P P′ × SameBelow n L L′
     go zero zero e = (refl, λ x. absurd (x refl), λ i l. absurd (omega arith), λ i l. absurd (omega arith))
-    go zero (suc m) e = absurd (let z : _≡_ {A = ℕ} 0 1 = cc in omega arith)
-    go (suc n) zero e = absurd (let z : _≡_ {A = ℕ} 0 1 = cc in omega arith)
+    go zero (suc m) e = never cc
+    go (suc n) zero e = never cc
     go (suc n) (suc m) e =
         let z : query (suc n) P L (r .s) (r .d) ≡ query (suc m) P′ L′ (r′ .s) (r′ .d) = cc in
         let k : suc n ≡ suc m = sym (length-table (suc n) P L) ∙ ap (λ (Q : Query). length (Q .rows)) z ∙ length-table (suc m) P′ L′ in

@@ -17,6 +17,7 @@ use Rattle.bits.specs.Bits.{OnlyRow, Cleared}
 use Rattle.bits.proofs.Bits.{only-refl, other-row, no-bits}
 use Rattle.rows.specs.Rows.{tagAt, below, shape, mapT, treeRows, Holds}
 use Rattle.rows.proofs.Rows.{size-holds, holds-first, holds-opens, row-opens, row-node, row-beyond}
+use Rattle.theory.proofs.Look.{never}
 use Rattle.matching.specs.Table.{Suits, ParentOf, RowIs, RowClear, Query, Lies, Needs, RowsFrom, Ready, Filled}
 use Rattle.matching.proofs.Tables.{Good, good-table, in-doc, label-doc, child-doc}
 use Rattle.matching.proofs.Labels.{true-false, iff-same}
@@ -220,4 +221,4 @@ module _ (code span P L : List ℕ) (good : goodTable P L ≡ true) where
               λ t. let y = b .0 t in k .1 (y .0, y .1, other-marks code [] mark (docOf P L) (below span c) (some v) (y .2)),
               λ y. let x = k .0 y in b .1 (x .0, x .1, other-marks code mark [] (docOf P L) (below span c) (some v) (x .2)),
             )
-        bits c v lc lv (no l) = (λ t. true-false (sym t ∙ f .clear c lc (inr (omega arith)) v lv), λ (x, e, y). let z : _≡_ {A = ℕ} 0 1 = cc (row-beyond span n (q .laid) code mark c (omega arith)) in absurd (omega arith))
+        bits c v lc lv (no l) = (λ t. true-false (sym t ∙ f .clear c lc (inr (omega arith)) v lv), λ (x, e, y). never (cc (row-beyond span n (q .laid) code mark c (omega arith))))

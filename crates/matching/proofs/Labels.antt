@@ -12,10 +12,11 @@ use borrow.Author.Tests.{eqb-true, eq-eqb, ne-eqb}
 use Rattle.meaning.specs.Matching.{bitAt}
 use Rattle.bits.specs.Bits.{bitOf, OnlyRow, BitSet, Sifted}
 use Rattle.bits.proofs.Bits.{all-bits, store-here, store-other}
+use Rattle.theory.proofs.Look.{never}
 use Rattle.matching.specs.Table.{Suits, RowUpTo, RowIs, RowClear}
 
 pub true-false : {A : Type 0} → true ≡ false → A
-true-false e = let z : _≡_ {A = ℕ} 0 1 = cc in absurd (omega arith)
+true-false e = never cc
 
 -- a truth value that is decided otherwise
 pub iff-same : {a b : Bool} {P : Type 0} → a ≡ b → (b ≡ true) ↔ P → (a ≡ true) ↔ P

@@ -13,12 +13,13 @@ use borrow.Author.Tests.{leb-true, le-leb, lt-leb, eqb-true, not-true, not-false
 use Rattle.meaning.specs.Number.{largestLabel}
 use Rattle.meaning.specs.Document.{DocRow, Child, docRow, labelOf, In}
 use Rattle.meaning.specs.Matching.{parentOk, rowsOk, goodTable, docOf}
+use Rattle.theory.proofs.Look.{never}
 use Rattle.matching.specs.Table.{Parents}
 use Rattle.matching.proofs.Labels.{true-false}
 
 both : (a b : Bool) → (a && b) ≡ true → (a ≡ true) × (b ≡ true)
 both true b e = (refl, e)
-both false b e = let z : _≡_ {A = ℕ} 0 1 = cc in absurd (omega arith)
+both false b e = never cc
 
 -- ------------------------------------------------------------------ one row
 pub row-label : (x p l : ℕ) → 65535 < l → false ≡ (parentOk x p && leb l largestLabel)
@@ -52,8 +53,8 @@ row-lower (suc x) p l h e = sym (rw (le-leb l 65535 h) (and-true (leb p x) ∙ s
 rows-length : (n : ℕ) (ps ls : List ℕ) → rowsOk n ps ls ≡ true → length ls ≡ length ps
 unfolding rowsOk
 rows-length n [] [] e = refl
-rows-length n [] (l ∷ ls) e = let z : _≡_ {A = ℕ} 0 1 = cc in absurd (omega arith)
-rows-length n (p ∷ ps) [] e = let z : _≡_ {A = ℕ} 0 1 = cc in absurd (omega arith)
+rows-length n [] (l ∷ ls) e = never cc
+rows-length n (p ∷ ps) [] e = never cc
 rows-length n (p ∷ ps) (l ∷ ls) e = ap suc (rows-length (suc n) ps ls (both (parentOk n p && leb l largestLabel) (rowsOk (suc n) ps ls) e .1))
 
 module _ (P L : List ℕ) where
@@ -140,7 +141,7 @@ row-parent (suc n) p e = let z = leb-true p n e in (omega arith, λ l. omega ari
 rows-parent : (n : ℕ) (P L : List ℕ) → rowsOk n P L ≡ true → (x : ℕ) → x < length P → parentOk (n + x) (getD P x 0) ≡ true
 unfolding rowsOk
 rows-parent n [] L e x l = absurd (omega arith)
-rows-parent n (p ∷ P) [] e x l = let z : _≡_ {A = ℕ} 0 1 = cc in absurd (omega arith)
+rows-parent n (p ∷ P) [] e x l = never cc
 rows-parent n (p ∷ P) (l ∷ L) e zero h =
     let y : n + 0 ≡ n = omega arith in
     rw y (both (parentOk n p) (leb l largestLabel) (both (parentOk n p && leb l largestLabel) (rowsOk (suc n) P L) e .0) .0)

@@ -6,6 +6,7 @@ pub mod TreeQuery
 pub mod Gluing
 pub mod Tree
 pub mod Folding
+pub mod Limits
 pub mod Number
 pub mod Image
 pub mod Normal

@@ -11,6 +11,7 @@ use Rattle.meaning.specs.Basics.{look}
 use Rattle.meaning.specs.Document.{Doc, In, labelOf}
 use Rattle.meaning.specs.TreeQuery.{Fits}
 use Rattle.meaning.specs.Number.{largestLabel}
+use Rattle.meaning.specs.Limits.{mostNodes, mostRows}
 use Rattle.meaning.specs.Tree.{Forest, Tag, Lays, preorder}
 
 -- ------------------------------------------------------------------ tables
@@ -28,7 +29,7 @@ rowsOk n (p ∷ ps) (l ∷ ls) = (parentOk n p && leb l largestLabel) && rowsOk 
 
 -- "A table is two lists of equal length, 1 to 1,024: parent numbers and labels."
 unfoldable pub goodTable : List ℕ → List ℕ → Bool
-goodTable parents labels = (leb 1 (length parents) && leb (length parents) 1024) && rowsOk 0 parents labels
+goodTable parents labels = (leb 1 (length parents) && leb (length parents) mostRows) && rowsOk 0 parents labels
 
 -- the document of a table
 unfoldable pub docOf : List ℕ → List ℕ → Doc
@@ -60,5 +61,5 @@ tableBytes = 32768
 -- the workspace afterwards: each bit "is set exactly if ..", all others of the first 32,768 bytes are clear, "later bytes keep their values"
 pub record MatchTable (F : Forest Tag) (D : Doc) (before after : List ℕ) : Type 0 where
   pub same : length after ≡ length before
-  pub bits : (u v : ℕ) → u < 256 → v < 1024 → (bitAt after u v ≡ true) ↔ CanLie F u D v
+  pub bits : (u v : ℕ) → u < mostNodes → v < mostRows → (bitAt after u v ≡ true) ↔ CanLie F u D v
   pub later : (i : ℕ) → tableBytes ≤ i → getD after i 0 ≡ getD before i 0

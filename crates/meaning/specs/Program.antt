@@ -26,7 +26,7 @@ unfoldable pub decimalF : ℕ → ℕ → List ℕ
 decimalF zero n = []
 decimalF (suc f) n = let more : List ℕ = decimalF f (n / 10) ++ ((48 + n % 10) ∷ []) in cond (ltb n 10) ((48 + n) ∷ []) more
 
--- "in decimal", with no zero in front; a number has fewer digits than n + 1, or one
+-- "in decimal", with no zero in front; a number n has at most n + 1 digits
 abbrev pub decimal : ℕ → List ℕ
 decimal n = decimalF (suc n) n
 

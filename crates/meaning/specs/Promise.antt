@@ -9,6 +9,7 @@ use Prim.Native.Nat.{ℕ}
 use lib.ListN.{length, drop}
 use lib.Dec.{leb, ltb}
 use Rattle.meaning.specs.Expression.{Expr, pairs}
+use Rattle.meaning.specs.Limits.{roomTooShort, badTable, noSuchNode, workspaceTooShort}
 use Rattle.meaning.specs.TreeQuery.{Query}
 use Rattle.meaning.specs.Gluing.{plain}
 use Rattle.meaning.specs.Image.{plainImage, minimalImage, minimalTree}
@@ -19,7 +20,7 @@ use Rattle.meaning.specs.Matching.{goodTable, docOf, MatchTable, tableBy
 -- ------------------------------------------------------------------ the three writers
 -- refusal 7: "the output room is shorter than the answer", with the bytes needed
 abbrev pub fitting : List ℕ → List ℕ → Outcome (List ℕ)
-fitting room bytes = cond (ltb (length room) (length bytes)) (refused 7 (length bytes)) (answered bytes)
+fitting room bytes = cond (ltb (length room) (length bytes)) (refused roomTooShort (length bytes)) (answered bytes)
 
 -- the bytes that a writer of `form` owes, or its refusal: 1 to 6, then 7
 unfoldable pub written : (Option Query → List ℕ) → List ℕ → List ℕ → Outcome (List ℕ)
@@ -61,15 +62,15 @@ pub record Question : Type 0 where
 
 -- refusal 10: "the workspace has under 32,768 bytes"
 abbrev pub spaced : Question → Expr → Outcome Expr
-spaced q e = cond (leb tableBytes (length (q .workspace))) (answered e) (refused 10 tableBytes)
+spaced q e = cond (leb tableBytes (length (q .workspace))) (answered e) (refused workspaceTooShort tableBytes)
 
 -- refusal 9: "a node of the pair is not in the table"
 abbrev pub paired : Question → Expr → Outcome Expr
-paired q e = cond (ltb (q .m) (length (q .parents)) && ltb (q .n) (length (q .parents))) (spaced q e) (refused 9 0)
+paired q e = cond (ltb (q .m) (length (q .parents)) && ltb (q .n) (length (q .parents))) (spaced q e) (refused noSuchNode 0)
 
 -- refusal 8: "the table is bad"; "then .. 8, 9, 10 for the pair question"
 abbrev pub tabled : Question → Expr → Outcome Expr
-tabled q e = cond (goodTable (q .parents) (q .labels)) (paired q e) (refused 8 0)
+tabled q e = cond (goodTable (q .parents) (q .labels)) (paired q e) (refused badTable 0)
 
 -- the query that is answered, or the refusal: 1 to 6, then 8, 9, 10
 unfoldable pub asked : Question → Outcome Expr

@@ -15,6 +15,7 @@ use Rattle.rows.specs.Rows.{below, shape, mapT, Holds, Rows}
 use Rattle.rows.proofs.Rows.{size-holds, holds-first, holds-opens, rows-top}
 use Rattle.branches.specs.Factors.{tagged, under, covers, ownAt}
 use Rattle.branches.proofs.Covers.{src-covers, dst-covers, either-covers, both-covers, covers-in, covers-before, covers-behind}
+use Rattle.theory.proofs.Look.{never}
 use Rattle.normal.specs.Ways.{Covers, Lowest, upsAt, downsAt, wayTo, wayAt, formAt}
 use Rattle.normal.proofs.Walk.{row-open, own-is, or-same, src-same, dst-same}
 
@@ -25,11 +26,11 @@ covers-true span c x = go (leb c x) refl (ltb x (c + getD span c 0)) refl
   where
     go : (a : Bool) → leb c x ≡ a → (b : Bool) → ltb x (c + getD span c 0) ≡ b → (a && b) ≡ true → Covers span c x
     go true p true q e = record { from = leb-true c x p; to = ltb-true x (c + getD span c 0) q }
-    go true p false q e = let o : _≡_ {A = ℕ} 0 1 = cc in absurd (omega arith)
-    go false p b q e = let o : _≡_ {A = ℕ} 0 1 = cc in absurd (omega arith)
+    go true p false q e = never cc
+    go false p b q e = never cc
 
 pub unlike : true ≡ false → ⊥
-unlike e = let o : _≡_ {A = ℕ} 0 1 = cc in omega arith
+unlike e = never cc
 
 module _ {code mark kids span up : List ℕ} {n : ℕ} (R : Rows code mark kids span up n) where
   covers-trans : (c t x : ℕ) → c < n → Covers span c t → Covers span t x → Covers span c x

@@ -15,6 +15,7 @@ use Rattle.meaning.specs.Normal.{off, ups, downs, aboveFactor, longer, around, 
 use Rattle.theory.proofs.Count.{bit, count, src, dst, marks, Tells, in-tells}
 use Rattle.theory.proofs.Ways.{on, aside, off-aside, count-ways, aside-count, aside-either, on-dst, either-counts, way-ind, factors-ind}
 use Rattle.theory.proofs.Limits.{cost, joined-cost, append-cost}
+use Rattle.theory.proofs.Look.{never}
 use Rattle.normal.specs.Weight.{labWeight}
 
 -- there are several brothers
@@ -178,7 +179,7 @@ both-either b j = go (srcIn b j) (dstIn b j)
   where
     go : (x y : Bool) → (x && y) ≡ true → (x || y) ≡ true
     go true y e = refl
-    go false y e = let o : _≡_ {A = ℕ} 0 1 = cc in absurd (omega arith)
+    go false y e = never cc
 
 cost-longer : (way : List Expr) (a : Tag) (k : Forest Tag) → marks (aside bothIn k) ≡ 0
     → cost (longer way a k) ≡ cost way + (labWeight (a .lab) + (weigh true (aside bothIn k) + 2))

@@ -9,6 +9,7 @@ use native.Mathlib.Decide.{decLt}
 use borrow.Author.Tests.{lt-ltb, le-ltb}
 use Rattle.meaning.specs.Basics.{pick}
 use Rattle.meaning.specs.Image.{LeL, decL}
+use Rattle.theory.proofs.Look.{never}
 use Rattle.order.specs.declared.Order.{Order}
 use Rattle.order.specs.declared.Order.the-variants.{Before, Same, After}
 use Rattle.order.specs.Links.{thenBy, cmpN, upTo}
@@ -73,13 +74,13 @@ cmpL (x ∷ xs) (y ∷ ys) = thenBy (cmpN x y) (cmpL xs ys)
 pub cmp-same : (xs ys : List ℕ) → cmpL xs ys ≡ Same → xs ≡ ys
 unfolding cmpL
 cmp-same [] [] h = refl
-cmp-same [] (y ∷ ys) h = let q : _≡_ {A = ℕ} 0 1 = cc in absurd (omega arith)
-cmp-same (x ∷ xs) [] h = let q : _≡_ {A = ℕ} 0 1 = cc in absurd (omega arith)
+cmp-same [] (y ∷ ys) h = never cc
+cmp-same (x ∷ xs) [] h = never cc
 cmp-same (x ∷ xs) (y ∷ ys) h = go (three x y) (cmp-same xs ys)
   where
     go : Three x y → (cmpL xs ys ≡ Same → xs ≡ ys) → x ∷ xs ≡ y ∷ ys
-    go (lower l e) ih = let z : Before ≡ Same = rw e at h in let q : _≡_ {A = ℕ} 0 1 = cc in absurd (omega arith)
-    go (upper l e) ih = let z : After ≡ Same = rw e at h in let q : _≡_ {A = ℕ} 0 1 = cc in absurd (omega arith)
+    go (lower l e) ih = let z : Before ≡ Same = rw e at h in never cc
+    go (upper l e) ih = let z : After ≡ Same = rw e at h in never cc
     go (equal l e) ih = let t : xs ≡ ys = ih (rw e at h) in cc
 
 le-cmp : (xs ys : List ℕ) → LeL xs ys → upTo (cmpL xs ys) ≡ true

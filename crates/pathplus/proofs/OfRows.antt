@@ -23,13 +23,14 @@ use Rattle.image.proofs.Image.{image-rows}
 use Rattle.normal.specs.Ways.{QueryRows}
 use Rattle.word.specs.Answer.{verdict}
 use Rattle.tree.specs.Trees.{Accepted, RowsOf, MinimalRows}
+use Rattle.theory.proofs.Look.{never}
 
 pub word-refused : (word : List ℕ) (n p : ℕ) → refused n p ≡ verdict (readWord word) → readWord word ≡ refused n p
 word-refused word n p v = go (readWord word) refl v
   where
     go : (o : Outcome Expr) → readWord word ≡ o → refused n p ≡ verdict o → readWord word ≡ refused n p
     go (refused n′ p′) r e = r ∙ (let a : n′ ≡ n = cc in let b : p′ ≡ p = cc in λ i. refused (a i) (b i))
-    go (answered f) r e = let z : _≡_ {A = ℕ} 0 1 = cc in absurd (omega arith)
+    go (answered f) r e = never cc
 
 -- the rows of a tree in image order list its image
 pub image-listed : (g : Expr → Forest Tag) (word code mark kids span up : List ℕ) (n : ℕ) → RowsOf (λ e. ordered (g e)) word code mark kids span up n

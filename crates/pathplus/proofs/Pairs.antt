@@ -14,13 +14,14 @@ use Rattle.rows.specs.Rows.{Rows, treeRows, shape, brothers, mapT}
 use Rattle.matching.specs.Pair.{Asked}
 use Rattle.matching.proofs.Marks.{single-row}
 use Rattle.tree.specs.Trees.{Accepted, MinimalRows}
+use Rattle.theory.proofs.Look.{never}
 use Rattle.pathplus.proofs.OfRows.{query-tree}
 
 -- no rows are empty, which selects nothing
 pub none-taken : (code mark span : List ℕ) (n : ℕ) → n ≡ 0 → (D : Doc) (m k : ℕ) → (false ≡ true) ↔ Takes (treeRows code mark span n) D m k
 unfolding treeRows shape brothers mapT
 none-taken code mark span n z D m k = (
-  λ e. let y : _≡_ {A = ℕ} 0 1 = cc in absurd (omega arith),
+  λ e. never cc,
   λ t. absurd (subst (λ i. Takes (treeRows code mark span i) D m k) z t),
 )
 

@@ -10,6 +10,7 @@ use Rattle.meaning.specs.Word.{Outcome, refused, answered}
 use Rattle.meaning.specs.Promise.{Writes, Question, Selected, PlainImage, MinimalImage, NormalForm}
 use Rattle.theory.proofs.Once.{Bytes}
 use Rattle.theory.proofs.Promise.{one-writing, one-reply}
+use Rattle.theory.proofs.Look.{never}
 use Rattle.pathplus.specs.declared.Written.{Written}
 use Rattle.pathplus.specs.declared.Written.the-variants as Written
 use Rattle.pathplus.specs.declared.Told.{Told}
@@ -19,19 +20,19 @@ use Rattle.pathplus.specs.Answer.{writtenOf, toldOf, numberOf, yesOf, Wr
 -- ------------------------------------------------------------------ an answer is what it stands for
 written-same : (r r′ : Written) → writtenOf r ≡ writtenOf r′ → r ≡ r′
 written-same (Written.Done k) (Written.Done k′) e = let q : k ≡ k′ = cc in λ i. Written.Done (q i)
-written-same (Written.Done k) (Written.Refused n p) e = let z : _≡_ {A = ℕ} 0 1 = cc in absurd (omega arith)
-written-same (Written.Refused n p) (Written.Done k) e = let z : _≡_ {A = ℕ} 0 1 = cc in absurd (omega arith)
+written-same (Written.Done k) (Written.Refused n p) e = never cc
+written-same (Written.Refused n p) (Written.Done k) e = never cc
 written-same (Written.Refused n p) (Written.Refused n′ p′) e = let a : n ≡ n′ = cc in let b : p ≡ p′ = cc in λ i. Written.Refused (a i) (b i)
 
 told-same : (r r′ : Told) → toldOf r ≡ toldOf r′ → r ≡ r′
 told-same Told.Yes Told.Yes e = refl
-told-same Told.Yes Told.No e = let z : _≡_ {A = ℕ} 0 1 = cc in absurd (omega arith)
-told-same Told.Yes (Told.Refused n p) e = let z : _≡_ {A = ℕ} 0 1 = cc in absurd (omega arith)
-told-same Told.No Told.Yes e = let z : _≡_ {A = ℕ} 0 1 = cc in absurd (omega arith)
+told-same Told.Yes Told.No e = never cc
+told-same Told.Yes (Told.Refused n p) e = never cc
+told-same Told.No Told.Yes e = never cc
 told-same Told.No Told.No e = refl
-told-same Told.No (Told.Refused n p) e = let z : _≡_ {A = ℕ} 0 1 = cc in absurd (omega arith)
-told-same (Told.Refused n p) Told.Yes e = let z : _≡_ {A = ℕ} 0 1 = cc in absurd (omega arith)
-told-same (Told.Refused n p) Told.No e = let z : _≡_ {A = ℕ} 0 1 = cc in absurd (omega arith)
+told-same Told.No (Told.Refused n p) e = never cc
+told-same (Told.Refused n p) Told.Yes e = never cc
+told-same (Told.Refused n p) Told.No e = never cc
 told-same (Told.Refused n p) (Told.Refused n′ p′) e = let a : n ≡ n′ = cc in let b : p ≡ p′ = cc in λ i. Told.Refused (a i) (b i)
 
 -- ------------------------------------------------------------------ the four calls

@@ -1,9 +1,9 @@
 // The public calls. Each takes any bytes, numbers and lengths, refuses in the order of the specification, and answers by the floors below;
 // nothing of the caller's is touched before the answer is known.
-use word::refusal::BAD_TABLE;
-use word::refusal::NO_SUCH_NODE;
-use word::refusal::ROOM_TOO_SHORT;
-use word::refusal::WORKSPACE_TOO_SHORT;
+use limits::refusal::BAD_TABLE;
+use limits::refusal::NO_SUCH_NODE;
+use limits::refusal::ROOM_TOO_SHORT;
+use limits::refusal::WORKSPACE_TOO_SHORT;
 use word::whole::Checked;
 use word::whole::check_word;
 ghost use mathlib.Core.Path.{_≡_};

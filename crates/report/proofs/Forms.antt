@@ -21,6 +21,7 @@ use Rattle.pathplus.specs.Answer.{writtenOf}
 use Rattle.pathplus.specs.declared.Written as Pathplus
 use Rattle.pathplus.specs.declared.Written.the-variants.{Done, Refused}
 use Rattle.pathplus.proofs.OfRows.{word-refused}
+use Rattle.theory.proofs.Look.{never}
 use Rattle.report.specs.declared.Form.{Form}
 use Rattle.report.specs.declared.Form.the-variants.{Plain, Minimal, Normal}
 use Rattle.report.specs.Form.{formOf, ofRead, formBytes}
@@ -65,7 +66,7 @@ module _ (word : List ℕ) (e : Expr) (r : readWord word ≡ answered e) where
 
   module _ (form : Form) {room after : List ℕ} {w : Pathplus.Written} where
     pub form-not-refused : {n p : ℕ} → w ≡ Refused n p → Writes (formOf form) word room (writtenOf w) after → 2048 ≤ length room → ⊥
-    form-not-refused q W le = let z : _≡_ {A = ℕ} 0 1 = cc (W .returned, ap lengthOf (form-fits form room le), ap writtenOf q) in omega arith
+    form-not-refused q W le = never (cc (W .returned, ap lengthOf (form-fits form room le), ap writtenOf q))
 
     -- the first k bytes of the room are the form
     pub form-answered : {k : ℕ} → w ≡ Done k → Writes (formOf form) word room (writtenOf w) after → 2048 ≤ length room

@@ -9,6 +9,7 @@ use lib.ListN.{getD}
 use Rattle.meaning.specs.Basics.{look}
 use Rattle.meaning.specs.Tree.{Forest, bare, tree, Tag, size, preorder}
 use Rattle.meaning.specs.Image.{labCode, markCode}
+use Rattle.theory.proofs.Look.{never}
 use Rattle.rows.specs.Rows.{tagAt, below, shape, mapT, treeRows, Holds, width, Hung, noRow, Rows}
 use Rattle.rows.proofs.Rows.{lab-code, mark-code, size-mapT, width-mapT, size-holds, row-opens, size-rows, row-node, row-kids}
 
@@ -21,7 +22,7 @@ hung-same : (f g : ℕ → Tag) (span span′ up up′ : List ℕ) (p p′ u u�
     → Holds span u e F → Holds span′ u′ e′ F′ → Hung up p F → Hung up′ p′ F′ → (c : ℕ) → u ≤ c → c < e → getD up c 0 ≡ getD up′ c 0
 unfolding mapT
 hung-same f g span span′ up up′ p p′ u u′ e e′ bare F′ ep eu m h h′ n n′ c l lc = absurd (omega arith)
-hung-same f g span span′ up up′ p p′ u u′ e e′ (tree i k r) bare ep eu m h h′ n n′ c l lc = absurd (let z : _≡_ {A = ℕ} 0 1 = cc in omega arith)
+hung-same f g span span′ up up′ p p′ u u′ e e′ (tree i k r) bare ep eu m h h′ n n′ c l lc = never cc
 hung-same f g span span′ up up′ p p′ u u′ e e′ (tree i k r) (tree i′ k′ r′) ep eu m h h′ n n′ c l lc =
     let mk : mapT f k ≡ mapT g k′ = cc in
     let mr : mapT f r ≡ mapT g r′ = cc in

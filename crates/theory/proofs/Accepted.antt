@@ -15,6 +15,7 @@ use Rattle.theory.proofs.Labels.{LabelsIn}
 use Rattle.theory.proofs.Factors.{Each}
 use Rattle.theory.proofs.Limits.{InRange}
 use Rattle.theory.proofs.Reread.{number-read, sign-label, step-label, pend}
+use Rattle.theory.proofs.Look.{never}
 
 -- what is answered is so
 abbrev Holds : {A : Type 0} → (A → Type 0) → Outcome A → Type 0
@@ -119,7 +120,7 @@ accepted word e q = go (ltb 4096 (length word)) refl q
   where
     go : (t : Bool) → ltb 4096 (length word) ≡ t → cond t (refused 1 4096) (run (length word) word 0 (pend [] 0)) ≡ answered e
         → (steps e ≤ 255) × LabelsIn InRange e × (length word ≤ 4096)
-    go true b q′ = let z : _≡_ {A = ℕ} 0 1 = cc in absurd (omega arith)
+    go true b q′ = never cc
     go false b q′ =
         let s : Sound (pend [] 0) = record { count = refl; few = omega arith; labels = tt } in
         let w : Holds Within (answered e) = subst (Holds Within) q′ (run-within (length word) word 0 (pend [] 0) s) in

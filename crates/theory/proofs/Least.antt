@@ -13,7 +13,7 @@ use Rattle.meaning.specs.Tree.{Forest, Tag, treeOf, plainTree, size}
 use Rattle.meaning.specs.Folding.{Reduced, Sheds, minimal}
 use Rattle.meaning.specs.Image.{image, ordered, minimalTree}
 use Rattle.meaning.specs.Normal.{normal, normalOf}
-use Rattle.theory.proofs.Look.{live-lt}
+use Rattle.theory.proofs.Look.{never, live-lt}
 use Rattle.theory.proofs.Plain.{Means, AtMost, plain-means, few-nodes}
 use Rattle.theory.proofs.Bridge.{tree-means}
 use Rattle.theory.proofs.Weigh.{size-tree}
@@ -82,7 +82,7 @@ module _ (e f : Expr) (ag : Agree (pairs e) (pairs f)) where
   no-empty : (Q : Query) → Means (pairs e) none → plain f ≡ some Q → ⊥
   no-empty Q w eq =
       let z : plain f ≡ none = (empty-exactly f) .1 (λ D g m n x. w D m n ((ag D g m n) .1 x)) in
-      let y : _≡_ {A = ℕ} 0 1 = cc in omega arith
+      never cc
 
   agree-queries : (P Q : Query) → Means (pairs e) (some P) → Means (pairs f) (some Q) → Agree (Selects P) (Selects Q)
   agree-queries P Q (p, w) (q, x) D g m n =

@@ -12,6 +12,7 @@ use lib.Dec.{ltb, eqb}
 use borrow.Author.Tests.{lt-ltb, le-ltb, ne-eqb, ltb-true, ltb-false, eqb-false}
 use Rattle.meaning.specs.Basics.{pick}
 use Rattle.meaning.specs.Number.{numF, num, Got, got, broken, more, lone, groups}
+use Rattle.theory.proofs.Look.{never}
 
 -- ------------------------------------------------------------------ writing
 -- a number of one group, and one of several
@@ -98,17 +99,17 @@ lone-back true b v k e = (tt, cc, cc)
 lone-back false b v k e = go (eqb b 0) refl e
   where
     go : (t : Bool) → eqb b 0 ≡ t → cond t broken (got b 1) ≡ got v k → (0 < b) × (b ≡ v) × (1 ≡ k)
-    go true q e′ = let z : _≡_ {A = ℕ} 0 1 = cc in absurd (omega arith)
+    go true q e′ = never cc
     go false q e′ = (omega (arith, eqb-false b 0 q), cc, cc)
 
 more-back : (b : ℕ) (g : Got) (v k : ℕ) → more b g ≡ got v k → (w : ℕ) × (j : ℕ) × (g ≡ got w j) × (b - 128 + 128 * w ≡ v) × (j + 1 ≡ k)
 more-back b (got w j) v k e = (w, j, refl, cc, cc)
-more-back b broken v k e = let z : _≡_ {A = ℕ} 0 1 = cc in absurd (omega arith)
+more-back b broken v k e = never cc
 
 -- a number takes a byte or more, and no more than there are
 pub groups-length : (first : Bool) (bs : List ℕ) (v k : ℕ) → groups first bs ≡ got v k → (0 < k) × (k ≤ length bs)
 unfolding groups
-groups-length first [] v k e = let z : _≡_ {A = ℕ} 0 1 = cc in absurd (omega arith)
+groups-length first [] v k e = never cc
 groups-length first (b ∷ bs) v k e = go (ltb b 128) e (groups-length false bs)
   where
     go : (t : Bool) → cond t (lone first b) (more b (groups false bs)) ≡ got v k
@@ -148,7 +149,7 @@ more-written first b bs w j lt le h = record { ends = end first; bytes = write }
 
 groups-written : (first : Bool) (bs : List ℕ) (v k : ℕ) → Bytes bs → groups first bs ≡ got v k → Written first bs v k
 unfolding groups
-groups-written first [] v k h e = let z : _≡_ {A = ℕ} 0 1 = cc in absurd (omega arith)
+groups-written first [] v k h e = never cc
 groups-written first (b ∷ bs) v k (hb, hs) e = go (ltb b 128) refl e (λ w j. groups-written false bs w j hs)
   where
     go : (t : Bool) → ltb b 128 ≡ t → cond t (lone first b) (more b (groups false bs)) ≡ got v k

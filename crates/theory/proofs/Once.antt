@@ -11,6 +11,7 @@ use lib.Seq.{ext-getD}
 use lib.Dec.{eqb}
 use lib.Pow.{shr-shr}
 use Rattle.meaning.specs.Matching.{bitAt}
+use Rattle.theory.proofs.Look.{never}
 
 -- "r is f of the inputs"
 pub value-same : {A : Type 0} {x a b : A} → a ≡ x → b ≡ x → a ≡ b
@@ -29,9 +30,9 @@ low-bit x y e = go (x % 2) (y % 2) (omega arith) (omega arith) e
   where
     go : (a b : ℕ) → a < 2 → b < 2 → eqb a 1 ≡ eqb b 1 → a ≡ b
     go zero zero p q f = refl
-    go zero (suc zero) p q f = let z : _≡_ {A = ℕ} 0 1 = cc in absurd (omega arith)
+    go zero (suc zero) p q f = never cc
     go zero (suc (suc b)) p q f = absurd (omega arith)
-    go (suc zero) zero p q f = let z : _≡_ {A = ℕ} 0 1 = cc in absurd (omega arith)
+    go (suc zero) zero p q f = never cc
     go (suc zero) (suc zero) p q f = refl
     go (suc zero) (suc (suc b)) p q f = absurd (omega arith)
     go (suc (suc a)) b p q f = absurd (omega arith)

@@ -11,6 +11,7 @@ use Rattle.meaning.specs.Document.{Doc, In}
 use Rattle.meaning.specs.Tree.{Forest, bare, tree, Tag, Under, Lays, MarkOn, OnPair, Takes}
 use Rattle.meaning.specs.Normal.{holds, srcIn, dstIn, eitherIn}
 use Rattle.meaning.specs.Matching.{OnLabel}
+use Rattle.theory.proofs.Look.{never}
 
 -- what is asked only where b is true
 abbrev pub OnlyIf : Bool → Type 0 → Type 0
@@ -25,8 +26,8 @@ Ways D m n (tree b j r) v =
 
 or-false : (a b : Bool) → (a || b) ≡ false → (a ≡ false) × (b ≡ false)
 or-false false false e = (refl, refl)
-or-false false true e = let z : _≡_ {A = ℕ} 0 1 = cc in absurd (omega arith)
-or-false true b e = let z : _≡_ {A = ℕ} 0 1 = cc in absurd (omega arith)
+or-false false true e = never cc
+or-false true b e = never cc
 
 mark-off : (b : Bool) (w m : ℕ) → b ≡ false → MarkOn b w m
 mark-off b w m e = subst (λ z. MarkOn z w m) (sym e) tt
@@ -87,4 +88,4 @@ module _ (D : Doc) (m n : ℕ) where
     where
       bit : (e : Bool) → e ≡ true → OnlyIf e ((w : ℕ) × In D w × OnPair D m n a w × Lays D (OnLabel D) k (some w) × Ways D m n k (some w)) → Lays D (OnLabel D) (tree a k bare) none
       bit true q (w, i, on, l, ws) = ((w, i, on .0, l), tt)
-      bit false q x = let z : _≡_ {A = ℕ} 0 1 = cc in absurd (omega arith)
+      bit false q x = never cc

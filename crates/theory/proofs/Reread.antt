@@ -18,15 +18,16 @@ use Rattle.theory.proofs.Numbers.{num-one, read-num, groups-length}
 use Rattle.theory.proofs.Labels.{LabelsIn}
 use Rattle.theory.proofs.Operands.{need}
 use Rattle.theory.proofs.Limits.{InRange}
+use Rattle.theory.proofs.Look.{never}
 
 -- ------------------------------------------------------------------ a number at a place
 notAbove-back : (top : ℕ) (g : Got) (v n : ℕ) → notAbove top g ≡ got v n → (g ≡ got v n) × (v ≤ top)
-notAbove-back top broken v n e = let z : _≡_ {A = ℕ} 0 1 = cc in absurd (omega arith)
+notAbove-back top broken v n e = never cc
 notAbove-back top (got w j) v n e = go (leb w top) refl e
   where
     go : (t : Bool) → leb w top ≡ t → cond t (got w j) broken ≡ got v n → (got w j ≡ got v n) × (v ≤ top)
     go true q e′ = let z : w ≡ v = cc in (e′, omega (arith, leb-true w top q))
-    go false q e′ = let z : _≡_ {A = ℕ} 0 1 = cc in absurd (omega arith)
+    go false q e′ = never cc
 
 -- a number that is read takes a byte or more of the word, and is a sign
 pub number-read : (word : List ℕ) (at v n : ℕ) → readNumber word at ≡ got v n → (at < length word) × (0 < n) × (v ≤ largestSign)

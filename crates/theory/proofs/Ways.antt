@@ -12,6 +12,7 @@ use Rattle.meaning.specs.Expression.{Expr, child}
 use Rattle.meaning.specs.Tree.{Forest, bare, tree, Tag, size, Lays}
 use Rattle.meaning.specs.Normal.{labelled, branch, onward, chains, inTree, srcIn, dstIn, bothIn, eitherIn, someTree, off, longer, around, factors}
 use Rattle.theory.proofs.Count.{bit, count, src, dst, marks, size-count, Tells, in-tells, in-true}
+use Rattle.theory.proofs.Look.{never}
 
 -- the trees that are so
 abbrev pub on : (Tag → Forest Tag → Bool) → Forest Tag → Forest Tag
@@ -105,7 +106,7 @@ on-dst (tree b j r) e = go (srcIn b j) (dstIn b j) refl e (λ e′. on-dst r e�
 
     go : (x y : Bool) → dstIn b j ≡ y → ((x && y) || someTree bothIn r) ≡ false → (someTree bothIn r ≡ false → on dstIn A ≡ on dstIn r)
         → on dstIn (cond x A (tree b j A)) ≡ cond y (tree b j (on dstIn r)) (on dstIn r)
-    go true true d z ih = let o : _≡_ {A = ℕ} 0 1 = cc in absurd (omega arith)
+    go true true d z ih = never cc
     go true false d z ih = ih z
     go false y d z ih = ap (λ x. cond x (tree b j (on dstIn A)) (on dstIn A)) d ∙ ap (λ l. cond y (tree b j l) l) (ih z)
 
@@ -127,13 +128,13 @@ both-true a k = go (srcIn a k) (dstIn a k) (in-tells src a k) (in-tells dst a k)
     go : (x y : Bool) → Tells x (bit (src a) + count src k) → Tells y (bit (dst a) + count dst k) → (x && y) ≡ true
         → (1 ≤ bit (src a) + count src k) × (1 ≤ bit (dst a) + count dst k)
     go true true t u e = (t, u)
-    go true false t u e = let o : _≡_ {A = ℕ} 0 1 = cc in absurd (omega arith)
-    go false y t u e = let o : _≡_ {A = ℕ} 0 1 = cc in absurd (omega arith)
+    go true false t u e = never cc
+    go false y t u e = never cc
 
 -- where a tree holds both marks, it alone does
 on-both : (k : Forest Tag) → count src k ≤ 1 → count dst k ≤ 1 → someTree bothIn k ≡ true
     → (b : Tag) × (j : Forest Tag) × (on bothIn k ≡ tree b j bare) × (1 ≤ count src k) × (1 ≤ count dst k) × (marks (aside bothIn k) ≡ 0)
-on-both bare s d e = let o : _≡_ {A = ℕ} 0 1 = cc in absurd (omega arith)
+on-both bare s d e = never cc
 on-both (tree b j r) s d e = go (bothIn b j) refl e (on-both r (omega arith) (omega arith))
   where
     go : (x : Bool) → bothIn b j ≡ x → (x || someTree bothIn r) ≡ true
@@ -195,7 +196,7 @@ module _
     First xs way (tree a k r) = G xs way a k
 
     walk : (f : Forest Tag) (way : List Expr) → count src f ≤ 1 → count dst f ≤ 1 → someTree bothIn f ≡ true → First (factors f way) way (on bothIn f)
-    walk bare way s d e = let o : _≡_ {A = ℕ} 0 1 = cc in absurd (omega arith)
+    walk bare way s d e = never cc
     walk (tree a k r) way s d e = go (bothIn a k) refl e (walk k (longer way a k) (omega arith) (omega arith)) (walk r way (omega arith) (omega arith))
       where
         F : List Expr

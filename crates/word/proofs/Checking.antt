@@ -11,6 +11,7 @@ use borrow.Author.Tests.{ltb-true, ltb-false, le-ltb, eq-eqb, ne-eqb}
 use Rattle.meaning.specs.Expression.{Expr}
 use Rattle.meaning.specs.Number.{readNumber}
 use Rattle.meaning.specs.Word.{Outcome, refused, answered, Pending, takes, onlyOne, atEnd, run, readWord}
+use Rattle.theory.proofs.Look.{never}
 use Rattle.word.specs.Answer.{gotOf, countsOf, counting, turnOf, takesRead, goesOn, atLast, allSigns, verdict}
 use Rattle.word.specs.Cursor.{placePast}
 use Rattle.word.specs.declared.number.Read.{Read}
@@ -37,7 +38,7 @@ verdict-onlyOne (e ∷ (d ∷ es)) end = rw (ne-eqb (suc (suc (length es))) 1 (�
 
 -- counting on and being stopped are never the same
 pub going-stopped : {counts : Counts} {number place : ℕ} → Next counts ≡ Stop number place → ⊥
-going-stopped e = let z : _≡_ {A = ℕ} 0 1 = cc in omega arith
+going-stopped e = never cc
 
 pub going-same : {counts more : Counts} → Next counts ≡ Next more → counts ≡ more
 going-same e = cc

@@ -8,15 +8,16 @@ use lib.Dec.{ltb, eqb}
 use borrow.Author.Tests.{eqb-false}
 use Rattle.meaning.specs.Number.{Got, got, broken, lone, groups, readNumber}
 use Rattle.theory.proofs.Reread.{number-read}
+use Rattle.theory.proofs.Look.{never}
 use Rattle.word.specs.Answer.{gotOf}
 use Rattle.word.specs.declared.number.Read.{Read}
 use Rattle.word.specs.declared.number.Read.the-variants.{Number}
 
 broken-got : {v n : ℕ} → broken ≡ got v n → ⊥
-broken-got e = let z : _≡_ {A = ℕ} 0 1 = cc in omega arith
+broken-got e = never cc
 
 lone-got : (f : Bool) (b v n : ℕ) → lone f b ≡ got v n → (n ≡ 1) × (f ≡ false → 0 < v)
-lone-got true b v n e = (cc, λ z. absurd (let y : _≡_ {A = ℕ} 0 1 = cc in omega arith))
+lone-got true b v n e = (cc, λ z. never cc)
 lone-got false b v n e = go (eqb b 0) refl e
   where
     go : (t : Bool) → eqb b 0 ≡ t → cond t broken (got b 1) ≡ got v n → (n ≡ 1) × (false ≡ false → 0 < v)

@@ -5,6 +5,7 @@ use Prim.Native.Nat.{ℕ, _-_}
 use native.Mathlib.Omega.{arith}
 use Rattle.meaning.specs.Number.{got, readNumber}
 use Rattle.meaning.specs.Word.{readWord}
+use Rattle.theory.proofs.Look.{never}
 use Rattle.word.specs.Answer.{gotOf, checkedOf, verdict}
 use Rattle.word.specs.Cursor.{placePast}
 use Rattle.word.specs.declared.number.Read.{Read}
@@ -21,8 +22,8 @@ read-unique w at (Number v next) (Number v′ next′) p q =
     let d : next - at ≡ next′ - at = cc in
     let f : next ≡ next′ = omega (arith, number-at w at p refl .moved, number-at w at q refl .moved) in
     cc
-read-unique w at (Number v next) Broken p q = absurd (let z : _≡_ {A = ℕ} 0 1 = cc in omega arith)
-read-unique w at Broken (Number v next) p q = absurd (let z : _≡_ {A = ℕ} 0 1 = cc in omega arith)
+read-unique w at (Number v next) Broken p q = never cc
+read-unique w at Broken (Number v next) p q = never cc
 read-unique w at Broken Broken p q = refl
 
 -- and a cursor is left at one place

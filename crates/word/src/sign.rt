@@ -1,4 +1,5 @@
 // The table of signs: their numbers, and what each does to the pending operands.
+use limits::most::LARGEST_LABEL;
 ghost use mathlib.Core.Path.{_≡_};
 ghost use Rattle.word.specs.Sign.{kindOf};
 
@@ -20,10 +21,8 @@ pub const INTERSECTION: u32 = 7;
 
 pub const INVERSE: u32 = 8;
 
-// "9+L: label L", "Labels are 0 to 65,535, so the largest sign is 65,544."
+// "9+L: label L", "so the largest sign is 65,544."
 pub const FIRST_LABEL: u32 = 9;
-
-pub const LARGEST_LABEL: u32 = 65535;
 
 pub const LARGEST_SIGN: u32 = FIRST_LABEL + LARGEST_LABEL;
 

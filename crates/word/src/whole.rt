@@ -2,17 +2,17 @@
 use crate::cursor::Cursor;
 use crate::cursor::read_sign;
 use crate::number::Read;
-use crate::refusal::BROKEN_NUMBER;
-use crate::refusal::LACKS_OPERANDS;
-use crate::refusal::LONGEST_WORD;
-use crate::refusal::MOST_PENDING;
-use crate::refusal::MOST_STEPS;
-use crate::refusal::NOT_ONE_LEFT;
-use crate::refusal::TOO_LONG;
-use crate::refusal::TOO_MANY_PENDING;
-use crate::refusal::TOO_MANY_STEPS;
 use crate::sign::Kind;
 use crate::sign::kind_of;
+use limits::most::LONGEST_WORD;
+use limits::most::MOST_PENDING;
+use limits::most::MOST_STEPS;
+use limits::refusal::BAD_NUMBER;
+use limits::refusal::MISSING_OPERAND;
+use limits::refusal::NOT_ONE_OPERAND;
+use limits::refusal::TOO_MANY_PENDING;
+use limits::refusal::TOO_MANY_STEPS;
+use limits::refusal::WORD_TOO_LONG;
 ghost use mathlib.Core.Path.{_≡_};
 ghost use lib.ListN.{length};
 ghost use Rattle.meaning.specs.Word.{Pending, takes, readWord};
@@ -67,13 +67,13 @@ fn take_sign(counts: Counts, sign: u32, at: usize) -> Turn
         }
         Kind::Unary => {
             if pending < 1 {
-                return Turn::Stop(LACKS_OPERANDS, at);
+                return Turn::Stop(MISSING_OPERAND, at);
             }
             Turn::Next(counts)
         }
         Kind::Binary => {
             if pending < 2 {
-                return Turn::Stop(LACKS_OPERANDS, at);
+                return Turn::Stop(MISSING_OPERAND, at);
             }
             Turn::Next(count(pending - 1, steps))
         }
@@ -105,7 +105,7 @@ fn take_read(turn: Turn, read: Read, at: usize) -> Turn
         return turn;
     };
     let Read::Number { value, next: _ } = read else {
-        return Turn::Stop(BROKEN_NUMBER, at);
+        return Turn::Stop(BAD_NUMBER, at);
     };
     take_sign(counts, value, at)
 }
@@ -131,7 +131,7 @@ pub fn check_word(word: &[u8]) -> Checked
 {
     if LONGEST_WORD < word.len() {
         return Checked::Refused {
-            number: TOO_LONG,
+            number: WORD_TOO_LONG,
             place: LONGEST_WORD,
         };
     }
@@ -141,7 +141,7 @@ pub fn check_word(word: &[u8]) -> Checked
                 return Checked::Accepted;
             }
             Checked::Refused {
-                number: NOT_ONE_LEFT,
+                number: NOT_ONE_OPERAND,
                 place: word.len(),
             }
         }

@@ -20,12 +20,6 @@ loop-holds c = (omega arith, clear-none _)
 slice-write-w : tie.Need-slice-write-w Inv-loop μ-loop
 slice-write-w c = omega (arith, c .before .loop .inv .1 .same)
 
-add-i : tie.Need-add-i Inv-loop μ-loop
-add-i c = search needs
-
-loop-less : tie.Need-loop-less Inv-loop μ-loop
-loop-less c = search needs
-
 loop-again : tie.Need-loop-again Inv-loop μ-loop
 loop-again c = (omega arith, clear-more _ _ _ (omega arith) (c .before .loop .inv .1))
 
@@ -43,8 +37,8 @@ clear-spec =
     μ-loop
     loop-holds
     slice-write-w
-    add-i
-    loop-less
+    (λ c. search needs)
+    (λ c. search needs)
     loop-again
     same-length
     returns)

@@ -21,21 +21,6 @@ returns c = flagged-none _ (λ j. eqb (getD (c .before .before .args .flags .now
 loop-holds : tie.Need-loop-holds Inv-loop μ-loop
 loop-holds c = (omega arith, sifted-none _ _)
 
-add-keep-bit : tie.Need-add-keep-bit Inv-loop μ-loop
-add-keep-bit c = search needs
-
-shared-slice-read-keep-bit : tie.Need-shared-slice-read-keep-bit Inv-loop μ-loop
-shared-slice-read-keep-bit c = search needs
-
-keep-bit-requires : tie.Need-keep-bit-requires Inv-loop μ-loop
-keep-bit-requires c κs = search needs
-
-add-k : tie.Need-add-k Inv-loop μ-loop
-add-k c = search needs
-
-loop-less : tie.Need-loop-less Inv-loop μ-loop
-loop-less c = search needs
-
 loop-again : tie.Need-loop-again Inv-loop μ-loop
 loop-again c = (omega arith, sifted-more _ (λ j. eqb (getD (c .before .before .before .before .before .before .args .flags .now) (c .before .before .before .before .before .before .args .from + j) 0) 1) _ _ _ (c .before .before .loop-test .taken) (c .before .before .before .loop .inv .1) (c .keep-bit .ensures))
 
@@ -50,10 +35,10 @@ flagged-spec =
     μ-loop
     returns
     loop-holds
-    add-keep-bit
-    shared-slice-read-keep-bit
-    keep-bit-requires
-    add-k
-    loop-less
+    (λ c. search needs)
+    (λ c. search needs)
+    (λ c κs. search needs)
+    (λ c. search needs)
+    (λ c. search needs)
     loop-again
     returns-2)

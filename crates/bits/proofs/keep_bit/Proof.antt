@@ -7,17 +7,8 @@ use Rattle.bits.proofs.keep_bit.Tie as tie
 returns : tie.Need-returns
 returns c = keep-on _ _ _ (c .if1 .taken)
 
-cast-result : tie.Need-cast-result
-cast-result c = search needs
-
-shl-result : tie.Need-shl-result
-shl-result c = search needs
-
-sub-result : tie.Need-sub-result
-sub-result c = search needs
-
 returns-2 : tie.Need-returns-2
 returns-2 c = keep-off _ _ _ (c .before .pre) (c .if1 .left)
 
 pub keep-bit-spec : {M : Type 1} → statement M
-keep-bit-spec = tie.close (tie.spec returns cast-result shl-result sub-result returns-2)
+keep-bit-spec = tie.close (tie.spec returns (λ c. search needs) (λ c. search needs) (λ c. search needs) returns-2)

@@ -11,9 +11,6 @@ use Rattle.branches.proofs.holds.Tie as tie
 returns : tie.Need-returns
 returns c = sym (covers-before _ _ _ (c .if1 .taken))
 
-span-at-requires : tie.Need-span-at-requires
-span-at-requires c κs = search needs
-
 add-result : tie.Need-add-result
 add-result c = let z = c .span-at .ensures .1 in omega arith
 
@@ -21,4 +18,4 @@ returns-2 : tie.Need-returns-2
 returns-2 c = unfold covers in rw (le-leb _ _ (c .before .if1 .left), c .span-at .ensures .0)
 
 pub holds-spec : {M : Type 1} → statement M
-holds-spec = tie.close (tie.spec returns span-at-requires add-result returns-2)
+holds-spec = tie.close (tie.spec returns (λ c κs. search needs) add-result returns-2)

@@ -10,9 +10,6 @@ use Rattle.branches.proofs.join.Tie as tie
 put-byte-requires : tie.Need-put-byte-requires
 put-byte-requires c κs = omega (arith, ap length (joint-some _ _ (c .before .if1 .taken)))
 
-same-length : tie.Need-same-length
-same-length c = search needs
-
 returns : tie.Need-returns
 returns c =
     let if1 = c .before .before .before .before .if1 in
@@ -23,4 +20,4 @@ returns-2 : tie.Need-returns-2
 returns-2 c = written-is (sym (joint-none _ _ (c .if1 .left))) (written-nil _ _)
 
 pub join-spec : {M : Type 1} → statement M
-join-spec = tie.close (tie.spec put-byte-requires same-length returns returns-2)
+join-spec = tie.close (tie.spec put-byte-requires (λ c. search needs) returns returns-2)

@@ -8,26 +8,14 @@ use borrow.Author.Needs.{needs}
 use Rattle.branches.proofs.put_label.Statement.{statement}
 use Rattle.branches.proofs.put_label.Tie as tie
 
-mul-x : tie.Need-mul-x
-mul-x c = search needs
-
-shared-slice-read-x : tie.Need-shared-slice-read-x
-shared-slice-read-x c = search needs
-
 returns : tie.Need-returns
 returns c = written-is (sym (label-none _ _ _ _ (c .if1 .taken))) (written-nil _ _)
-
-add-put-sign : tie.Need-add-put-sign
-add-put-sign c = search needs
 
 put-sign-requires : tie.Need-put-sign-requires
 put-sign-requires c κs =
     let s = c .before .before .before .before .before in
     let e = label-some (s .args .code .now) (s .args .u) (s .args .from) (s .args .at) _ refl (c .before .if1 .left) in
     omega (arith, ap length e, s .pre .2)
-
-same-length : tie.Need-same-length
-same-length c = search needs
 
 returns-2 : tie.Need-returns-2
 returns-2 c =
@@ -39,10 +27,10 @@ pub put-label-spec : {M : Type 1} → statement M
 put-label-spec =
     tie.close
     (tie.spec
-    mul-x
-    shared-slice-read-x
+    (λ c. search needs)
+    (λ c. search needs)
     returns
-    add-put-sign
+    (λ c. search needs)
     put-sign-requires
-    same-length
+    (λ c. search needs)
     returns-2)

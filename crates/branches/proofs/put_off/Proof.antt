@@ -45,9 +45,6 @@ join-requires c κs =
     let ey = sym (holds2 .ensures) ∙ if2 .left in
     joint-fits (s .args .code .now) _ _ _ _ (s .args .from) (s .args .at) ex ey (s .args .room .now) (s .pre .1) (branched .ensures)
 
-same-length : tie.Need-same-length
-same-length c = search needs
-
 returns-3 : tie.Need-returns-3
 returns-3 c =
     let holds = c .before .before .before .before .before .before .before .before .before .before .before .holds in
@@ -70,5 +67,5 @@ put-off-spec =
     returns-2
     branch-requires
     join-requires
-    same-length
+    (λ c. search needs)
     returns-3)

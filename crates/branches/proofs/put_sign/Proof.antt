@@ -18,9 +18,6 @@ join-requires c κs =
     let k = put-number .kept .0 in
     factor-rest (s .args .from) (s .args .at) (num (s .args .sign)) _ _ (put-number .ensures .0) (omega (arith, s .pre))
 
-same-length : tie.Need-same-length
-same-length c = search needs
-
 returns : tie.Need-returns
 returns c =
     let s = c .before .before .before .before .before .before .before .before .before in
@@ -30,4 +27,4 @@ returns c =
     (join .ensures)
 
 pub put-sign-spec : {M : Type 1} → statement M
-put-sign-spec = tie.close (tie.spec put-number-requires join-requires same-length returns)
+put-sign-spec = tie.close (tie.spec put-number-requires join-requires (λ c. search needs) returns)

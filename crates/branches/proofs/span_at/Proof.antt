@@ -4,12 +4,6 @@ use borrow.Author.Needs.{needs}
 use Rattle.branches.proofs.span_at.Statement.{statement}
 use Rattle.branches.proofs.span_at.Tie as tie
 
-mul-result : tie.Need-mul-result
-mul-result c = search needs
-
-shared-slice-read-result : tie.Need-shared-slice-read-result
-shared-slice-read-result c = search needs
-
 cast-result : tie.Need-cast-result
 cast-result c = omega (arith, c .shared-slice-known .given (c .before .args .u))
 
@@ -17,4 +11,4 @@ returns : tie.Need-returns
 returns c = let z = c .shared-slice-known .given (c .before .args .u) in (search needs, omega arith)
 
 pub span-at-spec : {M : Type 1} → statement M
-span-at-spec = tie.close (tie.spec mul-result shared-slice-read-result cast-result returns)
+span-at-spec = tie.close (tie.spec (λ c. search needs) (λ c. search needs) cast-result returns)

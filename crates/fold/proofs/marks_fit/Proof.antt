@@ -5,14 +5,8 @@ use borrow.Author.Needs.{needs}
 use Rattle.fold.proofs.marks_fit.Statement.{statement}
 use Rattle.fold.proofs.marks_fit.Tie as tie
 
-shared-slice-read-s : tie.Need-shared-slice-read-s
-shared-slice-read-s c = search needs
-
 returns : tie.Need-returns
 returns c = marks-no-dst _ _ (omega arith) (omega arith)
-
-shared-slice-read-t : tie.Need-shared-slice-read-t
-shared-slice-read-t c = search needs
 
 returns-2 : tie.Need-returns-2
 returns-2 c = marks-no-src _ _ (c .if2 .taken)
@@ -26,4 +20,4 @@ returns-4 c = marks-dst _ _ (omega arith) (omega arith)
 pub marks-fit-spec : {M : Type 1} → statement M
 marks-fit-spec =
     tie.close
-    (tie.spec shared-slice-read-s returns shared-slice-read-t returns-2 returns-3 returns-4)
+    (tie.spec (λ c. search needs) returns (λ c. search needs) returns-2 returns-3 returns-4)

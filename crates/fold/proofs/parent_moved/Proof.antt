@@ -6,19 +6,10 @@ use Rattle.fold.proofs.Moved.{parent-top, parent-row}
 use Rattle.fold.proofs.parent_moved.Statement.{statement}
 use Rattle.fold.proofs.parent_moved.Tie as tie
 
-mul-p : tie.Need-mul-p
-mul-p c = search needs
-
-shared-slice-read-p : tie.Need-shared-slice-read-p
-shared-slice-read-p c = search needs
-
 returns : tie.Need-returns
 returns c =
     let s = c .before .before .before .before in
     parent-top _ (s .args .moved .now) _ (c .if1 .taken)
-
-wide-requires : tie.Need-wide-requires
-wide-requires c κs = search needs
 
 mul-result : tie.Need-mul-result
 mul-result c =
@@ -39,10 +30,10 @@ pub parent-moved-spec : {M : Type 1} → statement M
 parent-moved-spec =
     tie.close
     (tie.spec
-    mul-p
-    shared-slice-read-p
+    (λ c. search needs)
+    (λ c. search needs)
     returns
-    wide-requires
+    (λ c κs. search needs)
     mul-result
     shared-slice-read-result
     returns-2)

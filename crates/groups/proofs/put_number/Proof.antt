@@ -53,9 +53,6 @@ cast-put-byte-2 c = omega arith
 put-byte-requires-2 : tie.Need-put-byte-requires-2 Inv-loop μ-loop
 put-byte-requires-2 c κs = omega (arith, ap length (num-one _ (c .before .loop-test .left)))
 
-same-length : tie.Need-same-length Inv-loop μ-loop
-same-length c = search needs
-
 returns : tie.Need-returns Inv-loop μ-loop
 returns c =
     let l = c .before .before .before .before .before .loop in
@@ -77,5 +74,5 @@ put-number-spec =
     loop-again
     cast-put-byte-2
     put-byte-requires-2
-    same-length
+    (λ c. search needs)
     returns)

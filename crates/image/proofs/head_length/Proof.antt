@@ -6,18 +6,9 @@ use Rattle.image.proofs.Listing.{length-head}
 use Rattle.image.proofs.head_length.Statement.{statement}
 use Rattle.image.proofs.head_length.Tie as tie
 
-number-length-requires : tie.Need-number-length-requires
-number-length-requires c κs = search needs
-
-number-length-requires-2 : tie.Need-number-length-requires-2
-number-length-requires-2 c κs = search needs
-
 add-result : tie.Need-add-result
 add-result c =
     let a = c .before .before .args in omega (arith, num-short 4 (a .code) (omega arith), num-short 4 (a .mark) (omega arith))
-
-number-length-requires-3 : tie.Need-number-length-requires-3
-number-length-requires-3 c κs = search needs
 
 add-result-2 : tie.Need-add-result-2
 add-result-2 c =
@@ -45,9 +36,9 @@ pub head-length-spec : {M : Type 1} → statement M
 head-length-spec =
     tie.close
     (tie.spec
-    number-length-requires
-    number-length-requires-2
+    (λ c κs. search needs)
+    (λ c κs. search needs)
     add-result
-    number-length-requires-3
+    (λ c κs. search needs)
     add-result-2
     returns)

@@ -17,9 +17,6 @@ put-number-requires-3 : tie.Need-put-number-requires-3
 put-number-requires-3 c κs =
     let a = c .before .before .before .before .before .before .before .before .before .before .args in omega (arith, length-head (a .code) (a .mark) (a .kids))
 
-same-length : tie.Need-same-length
-same-length c = search needs
-
 returns : tie.Need-returns
 returns c =
     let a = c .before .before .before .before .before .before .before .before .before .before .before .before .before .args in
@@ -34,4 +31,4 @@ returns c =
 pub put-head-spec : {M : Type 1} → statement M
 put-head-spec =
     tie.close
-    (tie.spec put-number-requires put-number-requires-2 put-number-requires-3 same-length returns)
+    (tie.spec put-number-requires put-number-requires-2 put-number-requires-3 (λ c. search needs) returns)

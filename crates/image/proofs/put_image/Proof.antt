@@ -19,30 +19,12 @@ Inv-loop room₀ at code mark kids n place₀ u₀ room place u =
 abbrev μ-loop : tie.MeasureT-loop
 μ-loop room₀ at code mark kids n place₀ u₀ room place u = n - u
 
-cast-put-number : tie.Need-cast-put-number Inv-loop μ-loop
-cast-put-number c = search needs
-
 put-number-requires : tie.Need-put-number-requires Inv-loop μ-loop
 put-number-requires c κs =
     let a = c .before .before .before .before .before .args in omega (arith, length-listing (a .code .now) (a .mark .now) (a .kids .now) (a .n))
 
 loop-holds : tie.Need-loop-holds Inv-loop μ-loop
 loop-holds c = (omega arith, refl, refl, refl)
-
-mul-put-head : tie.Need-mul-put-head Inv-loop μ-loop
-mul-put-head c = search needs
-
-shared-slice-read-put-head : tie.Need-shared-slice-read-put-head Inv-loop μ-loop
-shared-slice-read-put-head c = search needs
-
-shared-slice-read-put-head-2 : tie.Need-shared-slice-read-put-head-2 Inv-loop μ-loop
-shared-slice-read-put-head-2 c = search needs
-
-mul-put-head-2 : tie.Need-mul-put-head-2 Inv-loop μ-loop
-mul-put-head-2 c = search needs
-
-shared-slice-read-put-head-3 : tie.Need-shared-slice-read-put-head-3 Inv-loop μ-loop
-shared-slice-read-put-head-3 c = search needs
 
 put-head-requires : tie.Need-put-head-requires Inv-loop μ-loop
 put-head-requires c κs =
@@ -53,12 +35,6 @@ put-head-requires c κs =
       length-next (a .code .now) (a .mark .now) (a .kids .now) (a .n) _ (c .before .before .before .before .loop-test .taken),
     )
 
-add-u : tie.Need-add-u Inv-loop μ-loop
-add-u c = search needs
-
-loop-less : tie.Need-loop-less Inv-loop μ-loop
-loop-less c = search needs
-
 loop-again : tie.Need-loop-again Inv-loop μ-loop
 loop-again c =
     let a = c .before .before .before .before .before .before .before .before .before .before .before .before .before .before .before .before .before .args in
@@ -67,9 +43,6 @@ loop-again c =
     let p = c .before .before .put-head in
     let next = put-next (a .code .now) (a .mark .now) (a .kids .now) (a .n) (l .u) (l .place) (p .result) (l .room) (p .last .0) t (p .ensures .1) (p .ensures .0) in
     (omega arith, omega (arith, length-next (a .code .now) (a .mark .now) (a .kids .now) (a .n) (l .u) t), next ∙ l .inv .2, omega arith)
-
-same-length : tie.Need-same-length Inv-loop μ-loop
-same-length c = search needs
 
 returns : tie.Need-returns Inv-loop μ-loop
 returns c =
@@ -89,17 +62,17 @@ put-image-spec =
     (tie.spec
     Inv-loop
     μ-loop
-    cast-put-number
+    (λ c. search needs)
     put-number-requires
     loop-holds
-    mul-put-head
-    shared-slice-read-put-head
-    shared-slice-read-put-head-2
-    mul-put-head-2
-    shared-slice-read-put-head-3
+    (λ c. search needs)
+    (λ c. search needs)
+    (λ c. search needs)
+    (λ c. search needs)
+    (λ c. search needs)
     put-head-requires
-    add-u
-    loop-less
+    (λ c. search needs)
+    (λ c. search needs)
     loop-again
-    same-length
+    (λ c. search needs)
     returns)

@@ -9,11 +9,8 @@ use Rattle.matching.proofs.can_climb.Tie as tie
 returns : tie.Need-returns
 returns c = (λ e. true-false (sym e), λ (l, b). absurd (omega arith))
 
-test-bit-requires : tie.Need-test-bit-requires
-test-bit-requires c κs = search needs
-
 returns-2 : tie.Need-returns-2
 returns-2 c = (λ e. (omega arith, sym (c .test-bit .ensures) ∙ e), λ (l, b). c .test-bit .ensures ∙ b)
 
 pub can-climb-spec : {M : Type 1} → statement M
-can-climb-spec = tie.close (tie.spec returns test-bit-requires returns-2)
+can-climb-spec = tie.close (tie.spec returns (λ c κs. search needs) returns-2)

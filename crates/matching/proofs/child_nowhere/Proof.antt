@@ -4,6 +4,7 @@ use Prim.Native.Nat.{ℕ, _-_, _≤_, _<_}
 use native.Mathlib.Omega.{arith}
 use Rattle.bits.proofs.Bits.{row-clear}
 use Rattle.rows.proofs.Rows.{row-opens}
+use Rattle.theory.proofs.Look.{never}
 use Rattle.matching.proofs.Filling.{Children, children-start, child-span, child-next, child-needed}
 use Rattle.matching.proofs.child_nowhere.Statement.{statement}
 use Rattle.matching.proofs.child_nowhere.Tie as tie
@@ -45,7 +46,7 @@ loop-again : tie.Need-loop-again Inv-loop μ-loop
 loop-again c = (omega (arith, c .before .before .before .before .loop .inv .0), c .before .before .before .before .loop .inv .1, rw (c .link-at2 .ensures) (child-next _ _ _ _ (c .before .before .before .loop-test .taken) (c .before .before .before .before .loop .inv .2)))
 
 returns-2 : tie.Need-returns-2 Inv-loop μ-loop
-returns-2 c = λ e. let z : _≡_ {A = ℕ} 0 1 = cc in absurd (omega arith)
+returns-2 c = λ e. never cc
 
 pub child-nowhere-spec : {M : Type 1} → statement M
 child-nowhere-spec =

@@ -7,18 +7,9 @@ use Rattle.matching.proofs.fits_at.Tie as tie
 returns : tie.Need-returns
 returns c = fit-any (c .before .args .code) (c .before .args .labels .now) (c .before .args .x) (c .before .pre) (c .if1 .taken)
 
-sub-result : tie.Need-sub-result
-sub-result c = search needs
-
-mul-result : tie.Need-mul-result
-mul-result c = search needs
-
-shared-slice-read-result : tie.Need-shared-slice-read-result
-shared-slice-read-result c = search needs
-
 returns-2 : tie.Need-returns-2
 returns-2 c = fit-code (c .before .before .args .code) (c .before .before .args .labels .now) (c .before .before .args .x) (c .before .before .pre) (c .before .if1 .left)
 
 pub fits-at-spec : {M : Type 1} → statement M
 fits-at-spec =
-    tie.close (tie.spec returns sub-result mul-result shared-slice-read-result returns-2)
+    tie.close (tie.spec returns (λ c. search needs) (λ c. search needs) (λ c. search needs) returns-2)

@@ -24,30 +24,6 @@ returns-3 c = table-uneven _ _ (c .if3 .taken)
 loop-holds : tie.Need-loop-holds Inv-loop μ-loop
 loop-holds c = (omega arith, sofar-none _ _ (c .before .before .if1 .left) (omega arith))
 
-cast-still-good : tie.Need-cast-still-good Inv-loop μ-loop
-cast-still-good c = search needs
-
-mul-still-good : tie.Need-mul-still-good Inv-loop μ-loop
-mul-still-good c = search needs
-
-shared-slice-read-still-good : tie.Need-shared-slice-read-still-good Inv-loop μ-loop
-shared-slice-read-still-good c = search needs
-
-mul-still-good-2 : tie.Need-mul-still-good-2 Inv-loop μ-loop
-mul-still-good-2 c = search needs
-
-shared-slice-read-still-good-2 : tie.Need-shared-slice-read-still-good-2 Inv-loop μ-loop
-shared-slice-read-still-good-2 c = search needs
-
-still-good-requires : tie.Need-still-good-requires Inv-loop μ-loop
-still-good-requires c κs = search needs
-
-add-x : tie.Need-add-x Inv-loop μ-loop
-add-x c = search needs
-
-loop-less : tie.Need-loop-less Inv-loop μ-loop
-loop-less c = search needs
-
 loop-again : tie.Need-loop-again Inv-loop μ-loop
 loop-again c = (omega arith, sofar-more _ _ _ _ _ (c .before .before .before .loop-test .taken) (omega arith) (c .before .before .before .before .loop .inv .1) (c .still-good .ensures))
 
@@ -64,13 +40,13 @@ good-table-spec =
     returns-2
     returns-3
     loop-holds
-    cast-still-good
-    mul-still-good
-    shared-slice-read-still-good
-    mul-still-good-2
-    shared-slice-read-still-good-2
-    still-good-requires
-    add-x
-    loop-less
+    (λ c. search needs)
+    (λ c. search needs)
+    (λ c. search needs)
+    (λ c. search needs)
+    (λ c. search needs)
+    (λ c κs. search needs)
+    (λ c. search needs)
+    (λ c. search needs)
     loop-again
     returns-4)

@@ -7,14 +7,8 @@ use Rattle.matching.proofs.label_byte.Tie as tie
 returns : tie.Need-returns
 returns c = byte-any (c .before .before .args .code) (c .before .before .args .labels .now) (c .before .before .args .from) (c .before .before .pre .1) (c .if1 .taken)
 
-sub-same-byte : tie.Need-sub-same-byte
-sub-same-byte c = search needs
-
-same-byte-requires : tie.Need-same-byte-requires
-same-byte-requires c κs = search needs
-
 returns-2 : tie.Need-returns-2
 returns-2 c = byte-code (c .before .before .before .args .code) (c .before .before .before .args .labels .now) (c .before .before .before .args .from) _ (c .before .before .before .pre .1) (c .before .if1 .left) (c .same-byte .ensures)
 
 pub label-byte-spec : {M : Type 1} → statement M
-label-byte-spec = tie.close (tie.spec returns sub-same-byte same-byte-requires returns-2)
+label-byte-spec = tie.close (tie.spec returns (λ c. search needs) (λ c κs. search needs) returns-2)

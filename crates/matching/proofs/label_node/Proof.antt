@@ -7,15 +7,6 @@ use borrow.Author.Needs.{needs}
 use Rattle.matching.proofs.label_node.Statement.{statement}
 use Rattle.matching.proofs.label_node.Tie as tie
 
-fits-at-requires : tie.Need-fits-at-requires
-fits-at-requires c κs = search needs
-
-set-bit-requires : tie.Need-set-bit-requires
-set-bit-requires c κs = search needs
-
-same-length : tie.Need-same-length
-same-length c = search needs
-
 returns : tie.Need-returns
 returns c = (c .before .before .set-bit .ensures .only, row-node-on _ _ (Suits (c .before .before .before .before .before .before .before .before .args .code) (c .before .before .before .before .before .before .before .before .args .labels .now)) _ _ (c .before .before .before .before .before .before .before .before .pre .1) (c .before .before .before .before .before .fits-at .ensures .0 (c .before .before .before .before .if1 .taken)) (c .before .before .set-bit .ensures) (c .before .before .before .before .before .before .before .before .pre .4))
 
@@ -24,4 +15,4 @@ returns-2 c = (only-refl _ _, row-node-off _ _ (Suits (c .before .before .before
 
 pub label-node-spec : {M : Type 1} → statement M
 label-node-spec =
-    tie.close (tie.spec fits-at-requires set-bit-requires same-length returns returns-2)
+    tie.close (tie.spec (λ c κs. search needs) (λ c κs. search needs) (λ c. search needs) returns returns-2)

@@ -22,12 +22,6 @@ loop-holds c = (c .before .before .pre .3, only-refl _ _, c .before .before .pre
 label-node-requires : tie.Need-label-node-requires Inv-loop μ-loop
 label-node-requires c κs = (c .before .before .before .before .before .pre .0, omega (arith, c .before .before .before .before .before .pre .2), omega (arith, c .before .before .before .before .before .pre .1, c .before .before .loop .inv .1 .same), c .before .loop-test .taken, c .before .before .loop .inv .2)
 
-add-v : tie.Need-add-v Inv-loop μ-loop
-add-v c = search needs
-
-loop-less : tie.Need-loop-less Inv-loop μ-loop
-loop-less c = search needs
-
 loop-again : tie.Need-loop-again Inv-loop μ-loop
 loop-again c = (omega arith, only-then _ _ _ _ (c .before .before .before .before .before .loop .inv .1) (c .before .before .label-node .ensures .0), c .before .before .label-node .ensures .1)
 
@@ -45,8 +39,8 @@ label-rest-spec =
     μ-loop
     loop-holds
     label-node-requires
-    add-v
-    loop-less
+    (λ c. search needs)
+    (λ c. search needs)
     loop-again
     same-length
     returns)

@@ -17,29 +17,14 @@ Inv-loop w₀ u code labels at bytes i₀ w i = (i ≤ bytes) × OnlyRow w₀ u 
 abbrev μ-loop : tie.MeasureT-loop
 μ-loop w₀ u code labels at bytes i₀ w i = bytes - i
 
-mul-at : tie.Need-mul-at Inv-loop μ-loop
-mul-at c = search needs
-
 loop-holds : tie.Need-loop-holds Inv-loop μ-loop
 loop-holds c = (omega arith, only-refl _ _, row-none _ _ _ (c .before .before .pre .3))
-
-mul-label-byte : tie.Need-mul-label-byte Inv-loop μ-loop
-mul-label-byte c = search needs
 
 label-byte-requires : tie.Need-label-byte-requires Inv-loop μ-loop
 label-byte-requires c κs = (omega (arith, c .before .before .before .before .pre .2), omega arith)
 
-add-w : tie.Need-add-w Inv-loop μ-loop
-add-w c = search needs
-
 slice-write-w : tie.Need-slice-write-w Inv-loop μ-loop
 slice-write-w c = omega (arith, c .before .before .loop .inv .1 .same, c .before .before .before .before .before .pre .1, c .before .before .before .before .before .pre .2)
-
-add-i : tie.Need-add-i Inv-loop μ-loop
-add-i c = search needs
-
-loop-less : tie.Need-loop-less Inv-loop μ-loop
-loop-less c = search needs
 
 loop-again : tie.Need-loop-again Inv-loop μ-loop
 loop-again c = (
@@ -47,9 +32,6 @@ loop-again c = (
   only-then _ _ _ _ (c .before .before .loop .inv .1) (store-only _ _ (c .before .before .loop .i) _ (omega (arith, c .before .before .before .before .before .pre .2)) (omega (arith, c .before .before .loop .inv .1 .same, c .before .before .before .before .before .pre .1))),
   row-byte _ (Suits (c .before .before .before .before .before .args .code) (c .before .before .before .before .before .args .labels .now)) (c .before .before .loop .i) _ _ (omega (arith, c .before .before .before .before .before .pre .2)) (omega (arith, c .before .before .loop .inv .1 .same, c .before .before .before .before .before .pre .1)) (c .label-byte .ensures) (c .before .before .loop .inv .2),
 )
-
-mul-label-rest : tie.Need-mul-label-rest Inv-loop μ-loop
-mul-label-rest c = search needs
 
 label-rest-requires : tie.Need-label-rest-requires Inv-loop μ-loop
 label-rest-requires c κs = let z : c .before .before .loop .i ≡ length (c .before .before .before .before .before .args .labels .now) / 8 = omega arith in (c .before .before .before .before .before .pre .0, omega (arith, c .before .before .loop .inv .1 .same, c .before .before .before .before .before .pre .1), c .before .before .before .before .before .pre .2, omega arith, rw z at (c .before .before .loop .inv .2))
@@ -66,16 +48,16 @@ label-row-spec =
     (tie.spec
     Inv-loop
     μ-loop
-    mul-at
+    (λ c. search needs)
     loop-holds
-    mul-label-byte
+    (λ c. search needs)
     label-byte-requires
-    add-w
+    (λ c. search needs)
     slice-write-w
-    add-i
-    loop-less
+    (λ c. search needs)
+    (λ c. search needs)
     loop-again
-    mul-label-rest
+    (λ c. search needs)
     label-rest-requires
     same-length
     returns)

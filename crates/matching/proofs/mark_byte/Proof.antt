@@ -10,20 +10,8 @@ returns c = empty-byte (c .before .before .before .args .parents .now) _ _ (c .b
 mark-eight-requires : tie.Need-mark-eight-requires
 mark-eight-requires c κs = (c .before .before .before .before .before .pre .0, c .before .before .before .before .before .pre .1, full-inside (c .before .before .before .before .before .args .parents .now) _ _ (c .before .if2 .taken) (c .before .before .before .before .before .pre .3))
 
-same-length : tie.Need-same-length
-same-length c = search needs
-
 returns-2 : tie.Need-returns-2
 returns-2 c = full-byte (c .before .before .before .before .before .before .before .before .args .parents .now) _ _ _ (c .before .before .before .before .before .before .before .before .args .first) (c .before .before .before .before .if2 .taken) (c .before .before .mark-eight .ensures)
-
-mark-parents-requires : tie.Need-mark-parents-requires
-mark-parents-requires c κs = search needs
-
-same-length-2 : tie.Need-same-length-2
-same-length-2 c = search needs
-
-returns-3 : tie.Need-returns-3
-returns-3 c = search needs
 
 pub mark-byte-spec : {M : Type 1} → statement M
 mark-byte-spec =
@@ -31,8 +19,8 @@ mark-byte-spec =
     (tie.spec
     returns
     mark-eight-requires
-    same-length
+    (λ c. search needs)
     returns-2
-    mark-parents-requires
-    same-length-2
-    returns-3)
+    (λ c κs. search needs)
+    (λ c. search needs)
+    (λ c. search needs))

@@ -24,12 +24,6 @@ add-mark-node c = omega (arith, c .before .before .before .before .pre .0 .few, 
 mark-node-requires : tie.Need-mark-node-requires Inv-loop μ-loop
 mark-node-requires c κs = (c .before .before .before .before .before .pre .0, omega (arith, c .before .before .loop .inv .1 .same, c .before .before .before .before .before .pre .1), omega (arith, c .before .before .before .before .before .pre .2, c .before .loop-test .taken))
 
-add-k : tie.Need-add-k Inv-loop μ-loop
-add-k c = search needs
-
-loop-less : tie.Need-loop-less Inv-loop μ-loop
-loop-less c = search needs
-
 loop-again : tie.Need-loop-again Inv-loop μ-loop
 loop-again c = (omega arith, upto-more (λ j v. getD (c .before .before .before .before .before .before .before .before .args .parents .now) (c .before .before .before .before .before .before .before .before .args .first + j) 0 ≡ v) _ _ _ _ (c .before .before .before .before .before .loop .inv .1) (c .before .before .mark-node .ensures))
 
@@ -48,8 +42,8 @@ mark-eight-spec =
     loop-holds
     add-mark-node
     mark-node-requires
-    add-k
-    loop-less
+    (λ c. search needs)
+    (λ c. search needs)
     loop-again
     same-length
     returns)

@@ -5,17 +5,11 @@ use borrow.Author.Needs.{needs}
 use Rattle.matching.proofs.mark_node.Statement.{statement}
 use Rattle.matching.proofs.mark_node.Tie as tie
 
-parent-at-requires : tie.Need-parent-at-requires
-parent-at-requires c κs = search needs
-
 slice-write-has : tie.Need-slice-write-has
 slice-write-has c = omega (arith, c .parent-at .ensures, c .before .before .before .pre .0 .small _ (c .before .before .before .pre .2), c .before .before .before .pre .1)
-
-same-length : tie.Need-same-length
-same-length c = search needs
 
 returns : tie.Need-returns
 returns c = rw (← c .parent-at .ensures) (added-one _ _ (omega (arith, c .parent-at .ensures, c .before .before .before .pre .0 .small _ (c .before .before .before .pre .2), c .before .before .before .pre .1)))
 
 pub mark-node-spec : {M : Type 1} → statement M
-mark-node-spec = tie.close (tie.spec parent-at-requires slice-write-has same-length returns)
+mark-node-spec = tie.close (tie.spec (λ c κs. search needs) slice-write-has (λ c. search needs) returns)

@@ -20,17 +20,8 @@ abbrev μ-loop : tie.MeasureT-loop
 loop-holds : tie.Need-loop-holds Inv-loop μ-loop
 loop-holds c = (omega arith, upto-none (λ j v. (bitOf (c .before .before .args .byte) j ≡ true) × (getD (c .before .before .args .parents .now) (c .before .before .args .first + j) 0 ≡ v)) _)
 
-add-mark-parent : tie.Need-add-mark-parent Inv-loop μ-loop
-add-mark-parent c = search needs
-
 mark-parent-requires : tie.Need-mark-parent-requires Inv-loop μ-loop
 mark-parent-requires c κs = (c .before .before .before .before .before .pre .0, omega (arith, c .before .before .loop .inv .1 .same, c .before .before .before .before .before .pre .1), c .before .loop-test .taken, λ e. c .before .before .before .before .before .pre .3 _ e)
-
-add-k : tie.Need-add-k Inv-loop μ-loop
-add-k c = search needs
-
-loop-less : tie.Need-loop-less Inv-loop μ-loop
-loop-less c = search needs
 
 loop-again : tie.Need-loop-again Inv-loop μ-loop
 loop-again c = (omega arith, upto-more (λ j v. (bitOf (c .before .before .before .before .before .before .before .before .args .byte) j ≡ true) × (getD (c .before .before .before .before .before .before .before .before .args .parents .now) (c .before .before .before .before .before .before .before .before .args .first + j) 0 ≡ v)) _ _ _ _ (c .before .before .before .before .before .loop .inv .1) (c .before .before .mark-parent .ensures))
@@ -48,10 +39,10 @@ mark-parents-spec =
     Inv-loop
     μ-loop
     loop-holds
-    add-mark-parent
+    (λ c. search needs)
     mark-parent-requires
-    add-k
-    loop-less
+    (λ c. search needs)
+    (λ c. search needs)
     loop-again
     same-length
     returns)

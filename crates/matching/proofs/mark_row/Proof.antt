@@ -16,12 +16,6 @@ Inv-loop w c parents has₀ at bytes b i₀ has i = (1 ≤ i) × (i ≤ bytes) �
 abbrev μ-loop : tie.MeasureT-loop
 μ-loop w c parents has₀ at bytes b i₀ has i = bytes - i
 
-mul-at : tie.Need-mul-at Inv-loop μ-loop
-mul-at c = search needs
-
-add-bytes : tie.Need-add-bytes Inv-loop μ-loop
-add-bytes c = search needs
-
 shared-slice-read-b : tie.Need-shared-slice-read-b Inv-loop μ-loop
 shared-slice-read-b c = omega (arith, c .before .before .before .before .pre .2, c .before .before .before .before .pre .3)
 
@@ -47,12 +41,6 @@ mark-byte-requires c κs =
     let lb : getD (c .before .before .before .before .before .before .before .before .before .before .before .before .args .w .now) (128 * c .before .before .before .before .before .before .before .before .before .before .before .before .args .c + c .before .before .before .loop .i) 0 < 256 = omega (arith, c .before .before .before .before .before .before .before .before .before .before .before .shared-slice-known .given (128 * c .before .before .before .before .before .before .before .before .before .before .before .before .args .c + c .before .before .before .loop .i)) in
     (c .before .before .before .before .before .before .before .before .before .before .before .before .pre .0, omega (arith, c .before .before .before .before .before .before .before .before .before .before .before .before .pre .1, c .before .before .before .before .before .before .mark-parents .ensures .same, c .before .before .before .loop .inv .2), omega (arith, c .before .before .before .before .before .before .before .before .before .before .before .before .pre .0 .few, c .before .before .before .loop .inv .1), byte-inside _ _ (c .before .before .before .before .before .before .before .before .before .before .before .before .args .parents .now) (c .before .before .before .before .before .before .before .before .before .before .before .before .pre .4) (c .before .before .before .loop .i) (omega (arith, c .before .before .before .before .before .before .before .before .before .before .before .before .pre .0 .few, c .before .before .before .loop .inv .1)) lb)
 
-add-i : tie.Need-add-i Inv-loop μ-loop
-add-i c = search needs
-
-loop-less : tie.Need-loop-less Inv-loop μ-loop
-loop-less c = search needs
-
 loop-again : tie.Need-loop-again Inv-loop μ-loop
 loop-again c =
     let lb : getD (c .before .before .before .before .before .before .before .before .before .before .before .before .before .before .before .args .w .now) (128 * c .before .before .before .before .before .before .before .before .before .before .before .before .before .before .before .args .c + c .before .before .before .before .before .before .loop .i) 0 < 256 = omega (arith, c .before .before .before .before .before .before .before .before .before .before .before .before .before .before .shared-slice-known .given (128 * c .before .before .before .before .before .before .before .before .before .before .before .before .before .before .before .args .c + c .before .before .before .before .before .before .loop .i)) in
@@ -72,8 +60,8 @@ mark-row-spec =
     (tie.spec
     Inv-loop
     μ-loop
-    mul-at
-    add-bytes
+    (λ c. search needs)
+    (λ c. search needs)
     shared-slice-read-b
     mark-parents-requires
     loop-holds
@@ -81,8 +69,8 @@ mark-row-spec =
     shared-slice-read-mark-byte
     mul-mark-byte
     mark-byte-requires
-    add-i
-    loop-less
+    (λ c. search needs)
+    (λ c. search needs)
     loop-again
     same-length
     returns)

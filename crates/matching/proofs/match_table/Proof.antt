@@ -22,14 +22,8 @@ clear-requires c κs = c .before .before .before .before .before .before .pre .2
 loop-holds : tie.Need-loop-holds Inv-loop μ-loop
 loop-holds c = (omega arith, λ w h. filled-none _ _ _ _ (c .before .before .before .before .before .before .before .before .before .pre .1) w _ (c .before .before .before .before .before .before .before .before .before .pre .0) _ h)
 
-sub-u : tie.Need-sub-u Inv-loop μ-loop
-sub-u c = search needs
-
 match-row-requires : tie.Need-match-row-requires Inv-loop μ-loop
 match-row-requires c κs = filled-ready _ _ _ _ (c .before .before .before .before .before .before .before .before .before .before .before .before .pre .1) _ _ (c .before .before .before .before .before .before .before .before .before .before .before .before .pre .0) _ _ (c .before .before .before .before .before .before .before .before .before .before .before .before .pre .2) (c .before .loop-test .taken) (c .before .before .loop .inv .0) (c .before .before .loop .inv .1 _ (c .before .before .before .before .before .clear .ensures))
-
-loop-less : tie.Need-loop-less Inv-loop μ-loop
-loop-less c = search needs
 
 loop-again : tie.Need-loop-again Inv-loop μ-loop
 loop-again c = (omega (arith, c .before .before .before .before .before .loop .inv .0), λ w h. filled-more _ _ _ _ (c .before .before .before .before .before .before .before .before .before .before .before .before .before .before .before .pre .1) w _ (c .before .before .before .before .before .before .before .before .before .before .before .before .before .before .before .pre .0) _ _ _ (c .before .before .before .before .loop-test .taken) (c .before .before .before .before .before .loop .inv .0) (c .before .before .before .before .before .loop .inv .1 w h) (c .before .before .match-row .ensures))
@@ -48,9 +42,9 @@ match-table-spec =
     μ-loop
     clear-requires
     loop-holds
-    sub-u
+    (λ c. search needs)
     match-row-requires
-    loop-less
+    (λ c. search needs)
     loop-again
     same-length
     returns)

@@ -19,24 +19,6 @@ abbrev μ-loop : tie.MeasureT-loop
 loop-holds : tie.Need-loop-holds Inv-loop μ-loop
 loop-holds c = (omega arith, sifted-none _ _)
 
-add-keep-bit : tie.Need-add-keep-bit Inv-loop μ-loop
-add-keep-bit c = search needs
-
-mul-keep-bit : tie.Need-mul-keep-bit Inv-loop μ-loop
-mul-keep-bit c = search needs
-
-shared-slice-read-keep-bit : tie.Need-shared-slice-read-keep-bit Inv-loop μ-loop
-shared-slice-read-keep-bit c = search needs
-
-keep-bit-requires : tie.Need-keep-bit-requires Inv-loop μ-loop
-keep-bit-requires c κs = search needs
-
-add-k : tie.Need-add-k Inv-loop μ-loop
-add-k c = search needs
-
-loop-less : tie.Need-loop-less Inv-loop μ-loop
-loop-less c = search needs
-
 loop-again : tie.Need-loop-again Inv-loop μ-loop
 loop-again c = (omega arith, sifted-more _ (λ j. eqb (getD (c .before .before .before .before .before .args .labels .now) (c .before .before .before .before .before .args .from + j) 0) (c .before .before .before .before .before .args .label)) _ _ _ (c .before .before .loop-test .taken) (c .before .before .before .loop .inv .1) (c .keep-bit .ensures))
 
@@ -50,11 +32,11 @@ same-byte-spec =
     Inv-loop
     μ-loop
     loop-holds
-    add-keep-bit
-    mul-keep-bit
-    shared-slice-read-keep-bit
-    keep-bit-requires
-    add-k
-    loop-less
+    (λ c. search needs)
+    (λ c. search needs)
+    (λ c. search needs)
+    (λ c κs. search needs)
+    (λ c. search needs)
+    (λ c. search needs)
     loop-again
     returns)

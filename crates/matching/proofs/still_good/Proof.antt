@@ -4,9 +4,6 @@ use borrow.Author.Needs.{needs}
 use Rattle.matching.proofs.still_good.Statement.{statement}
 use Rattle.matching.proofs.still_good.Tie as tie
 
-good-row-requires : tie.Need-good-row-requires
-good-row-requires c κs = search needs
-
 returns : tie.Need-returns
 returns c = good-not (c .before .before .args .good) _ _ (c .before .good-row .ensures) (c .if1 .taken)
 
@@ -14,4 +11,4 @@ returns-2 : tie.Need-returns-2
 returns-2 c = good-too (c .before .before .args .good) _ _ (c .before .good-row .ensures) (c .if1 .left)
 
 pub still-good-spec : {M : Type 1} → statement M
-still-good-spec = tie.close (tie.spec good-row-requires returns returns-2)
+still-good-spec = tie.close (tie.spec (λ c κs. search needs) returns returns-2)

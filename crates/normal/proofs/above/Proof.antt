@@ -33,9 +33,6 @@ join-requires c κs =
     above-joint (s .args .code .now) (s .args .span .now) (s .args .from) (s .args .at) (s .args .t) (λ z. omega (arith, if1 .left)) (s .args .room .now) (s .pre .1) (way .ensures)
     (record { place = put-byte .ensures .0; bytes = put-byte .ensures .1 })
 
-same-length : tie.Need-same-length
-same-length c = search needs
-
 returns-2 : tie.Need-returns-2
 returns-2 c =
     let s = c .before .before .before .before .before .before .before .before .before .before .before .before .before .before .before .before .before in
@@ -47,4 +44,4 @@ returns-2 c =
 
 pub above-spec : {M : Type 1} → statement M
 above-spec =
-    tie.close (tie.spec returns way-requires put-byte-requires join-requires same-length returns-2)
+    tie.close (tie.spec returns way-requires put-byte-requires join-requires (λ c. search needs) returns-2)

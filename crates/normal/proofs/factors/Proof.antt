@@ -38,9 +38,6 @@ fall-requires c κs =
       downs-fits _ _ (s .args .s) _ _ _ (s .args .room .now) f (rise .ensures) (above .ensures) (own .ensures),
     )
 
-same-length : tie.Need-same-length
-same-length c = search needs
-
 returns : tie.Need-returns
 returns c =
     let s = c .before .before .before .before .before .before .before .before .before .before .before .before .before .before .before .before .before .before .before .before .before in
@@ -53,4 +50,4 @@ returns c =
 pub factors-spec : {M : Type 1} → statement M
 factors-spec =
     tie.close
-    (tie.spec rise-requires above-requires own-requires fall-requires same-length returns)
+    (tie.spec rise-requires above-requires own-requires fall-requires (λ c. search needs) returns)

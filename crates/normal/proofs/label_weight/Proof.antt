@@ -11,12 +11,6 @@ use Rattle.normal.proofs.label_weight.Tie as tie
 returns : tie.Need-returns
 returns c = (sym (label-none _ (c .if1 .taken)), omega arith)
 
-add-number-length : tie.Need-add-number-length
-add-number-length c = search needs
-
-number-length-requires : tie.Need-number-length-requires
-number-length-requires c κs = search needs
-
 add-result : tie.Need-add-result
 add-result c =
     let s = c .before .before in
@@ -30,4 +24,4 @@ returns-2 c =
 
 pub label-weight-spec : {M : Type 1} → statement M
 label-weight-spec =
-    tie.close (tie.spec returns add-number-length number-length-requires add-result returns-2)
+    tie.close (tie.spec returns (λ c. search needs) (λ c κs. search needs) add-result returns-2)

@@ -5,17 +5,11 @@ use Rattle.normal.proofs.Counting.{on-first, on-second}
 use Rattle.normal.proofs.on_way.Statement.{statement}
 use Rattle.normal.proofs.on_way.Tie as tie
 
-holds-requires : tie.Need-holds-requires
-holds-requires c κs = search needs
-
 returns : tie.Need-returns
 returns c = sym (on-first _ _ _ _ (sym (c .before .holds .ensures) ∙ c .if1 .taken))
-
-holds-requires-2 : tie.Need-holds-requires-2
-holds-requires-2 c κs = search needs
 
 returns-2 : tie.Need-returns-2
 returns-2 c = c .holds2 .ensures ∙ sym (on-second _ _ _ _ (sym (c .before .before .holds .ensures) ∙ c .before .if1 .left))
 
 pub on-way-spec : {M : Type 1} → statement M
-on-way-spec = tie.close (tie.spec holds-requires returns holds-requires-2 returns-2)
+on-way-spec = tie.close (tie.spec (λ c κs. search needs) returns (λ c κs. search needs) returns-2)

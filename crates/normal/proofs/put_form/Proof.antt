@@ -14,9 +14,6 @@ put-byte-requires c κs =
     let s = c .before .before .before .before .before .before .before .before in
     omega (arith, s .pre .1, ap length (form-empty (s .pre .0) (c .before .if1 .taken)))
 
-same-length : tie.Need-same-length
-same-length c = search needs
-
 returns : tie.Need-returns
 returns c =
     let s = c .before .before .before .before .before .before .before .before .before .before .before in
@@ -70,9 +67,6 @@ put-byte-requires-2 c κs =
     let (e, k) = form-none (s .pre .0) _ _ (marked .ensures) (marked2 .ensures) _ (lowest .ensures) _ (factors .ensures) (c .before .if2 .taken) in
     omega (arith, s .pre .1, ap length e, ap length k)
 
-same-length-2 : tie.Need-same-length-2
-same-length-2 c = search needs
-
 returns-2 : tie.Need-returns-2
 returns-2 c =
     let s = c .before .before .before .before .before .before .before .before .before .before .before .before .before .before .before .before .before .before .before in
@@ -84,9 +78,6 @@ returns-2 c =
     let put-byte2 = c .before .before .put-byte2 in
     let (e, k) = form-none (s .pre .0) _ _ (marked .ensures) (marked2 .ensures) _ (lowest .ensures) _ (factors .ensures) (if2 .taken) in
     record { place = omega (arith, put-byte2 .ensures .0, ap length e); bytes = put-byte2 .ensures .1 ∙ ap (λ d. put d (s .args .at) (1 ∷ [])) k ∙ ap (put _ _) (sym e) }
-
-same-length-3 : tie.Need-same-length-3
-same-length-3 c = search needs
 
 returns-3 : tie.Need-returns-3
 returns-3 c =
@@ -102,14 +93,14 @@ put-form-spec =
     tie.close
     (tie.spec
     put-byte-requires
-    same-length
+    (λ c. search needs)
     returns
     marked-requires
     marked-requires-2
     lowest-requires
     factors-requires
     put-byte-requires-2
-    same-length-2
+    (λ c. search needs)
     returns-2
-    same-length-3
+    (λ c. search needs)
     returns-3)

@@ -24,9 +24,6 @@ loop-holds c = (omega arith, refl, refl, refl, λ x l. absurd (omega arith))
 link-requires : tie.Need-link-requires Inv-loop μ-loop
 link-requires c κs = omega (arith, c .before .before .before .before .before .before .before .before .before .pre .rows)
 
-mul-out-code : tie.Need-mul-out-code Inv-loop μ-loop
-mul-out-code c = search needs
-
 shared-slice-read-out-code : tie.Need-shared-slice-read-out-code Inv-loop μ-loop
 shared-slice-read-out-code c =
     let c1 = c .before in
@@ -34,9 +31,6 @@ shared-slice-read-out-code c =
     let c3 = c2 .before in
     let c4 = c3 .before .before .before .before .before .before .before .before in
     omega (arith, c4 .pre .inside (c3 .loop .i) (c2 .loop-test .taken), c1 .link .ensures .0, c4 .pre .codes)
-
-mul-out-code-2 : tie.Need-mul-out-code-2 Inv-loop μ-loop
-mul-out-code-2 c = search needs
 
 slice-write-out-code : tie.Need-slice-write-out-code Inv-loop μ-loop
 slice-write-out-code c =
@@ -73,12 +67,6 @@ set-link-requires c κs =
     let c3 = c2 .before .before .before .before .before .before .before .before in
     (omega (arith, c3 .pre .outKids, c2 .loop .inv .3), c1 .link2 .ensures .1)
 
-add-i : tie.Need-add-i Inv-loop μ-loop
-add-i c = search needs
-
-loop-less : tie.Need-loop-less Inv-loop μ-loop
-loop-less c = search needs
-
 loop-again : tie.Need-loop-again Inv-loop μ-loop
 loop-again c =
     let c1 = c .before .before in
@@ -95,15 +83,6 @@ loop-again c =
           _ _ _ _ (c3 .link .ensures .0) refl refl (c2 .link2 .ensures .0) _ (c1 .set-link .ensures),
     )
 
-same-length : tie.Need-same-length Inv-loop μ-loop
-same-length c = search needs
-
-same-length-2 : tie.Need-same-length-2 Inv-loop μ-loop
-same-length-2 c = search needs
-
-same-length-3 : tie.Need-same-length-3 Inv-loop μ-loop
-same-length-3 c = search needs
-
 returns : tie.Need-returns Inv-loop μ-loop
 returns c =
     let c1 = c .before in
@@ -118,18 +97,18 @@ bear-spec =
     μ-loop
     loop-holds
     link-requires
-    mul-out-code
+    (λ c. search needs)
     shared-slice-read-out-code
-    mul-out-code-2
+    (λ c. search needs)
     slice-write-out-code
     shared-slice-read-out-mark
     slice-write-out-mark
     link-requires-2
     set-link-requires
-    add-i
-    loop-less
+    (λ c. search needs)
+    (λ c. search needs)
     loop-again
-    same-length
-    same-length-2
-    same-length-3
+    (λ c. search needs)
+    (λ c. search needs)
+    (λ c. search needs)
     returns)

@@ -20,18 +20,6 @@ abbrev μ-loop : tie.MeasureT-loop
 loop-holds : tie.Need-loop-holds Inv-loop μ-loop
 loop-holds c = (omega arith, refl, refl, λ p l. absurd (omega arith))
 
-set-link-requires : tie.Need-set-link-requires Inv-loop μ-loop
-set-link-requires c κs = search needs
-
-set-link-requires-2 : tie.Need-set-link-requires-2 Inv-loop μ-loop
-set-link-requires-2 c κs = search needs
-
-add-i : tie.Need-add-i Inv-loop μ-loop
-add-i c = search needs
-
-loop-less : tie.Need-loop-less Inv-loop μ-loop
-loop-less c = search needs
-
 loop-again : tie.Need-loop-again Inv-loop μ-loop
 loop-again c =
     let c1 = c .before .before in
@@ -44,12 +32,6 @@ loop-again c =
       cleared-more (c3 .loop .i) (c3 .loop .first) (c3 .loop .count) (c3 .loop .inv .3) (omega (arith, c3 .loop .inv .1, c4 .pre .0)) (omega (arith, c3 .loop .inv .2, c4 .pre .1)) _ _ (c2 .set-link .ensures) (c1 .set-link2 .ensures),
     )
 
-same-length : tie.Need-same-length Inv-loop μ-loop
-same-length c = search needs
-
-same-length-2 : tie.Need-same-length-2 Inv-loop μ-loop
-same-length-2 c = search needs
-
 returns : tie.Need-returns Inv-loop μ-loop
 returns c = let z : c .before .loop .i ≡ c .before .before .before .before .args .n + 1 = omega arith in rw z at (c .before .loop .inv .3)
 
@@ -60,11 +42,11 @@ clear-spec =
     Inv-loop
     μ-loop
     loop-holds
-    set-link-requires
-    set-link-requires-2
-    add-i
-    loop-less
+    (λ c κs. search needs)
+    (λ c κs. search needs)
+    (λ c. search needs)
+    (λ c. search needs)
     loop-again
-    same-length
-    same-length-2
+    (λ c. search needs)
+    (λ c. search needs)
     returns)

@@ -24,14 +24,8 @@ loop-holds c =
     let c1 = c .before .before .before .before in
     (omega arith, refl, refl, refl, c1 .pre .0, gathered-none _ _ _ _ _ (c1 .pre .0 .short) (c1 .pre .1))
 
-sub-i : tie.Need-sub-i Inv-loop μ-loop
-sub-i c = search needs
-
 link-requires : tie.Need-link-requires Inv-loop μ-loop
 link-requires c κs = omega (arith, c .before .loop .inv .4 .parents)
-
-slot-requires : tie.Need-slot-requires Inv-loop μ-loop
-slot-requires c κs = search needs
 
 link-requires-2 : tie.Need-link-requires-2 Inv-loop μ-loop
 link-requires-2 c κs =
@@ -80,9 +74,6 @@ set-link-requires-3 c κs =
     let v = c5 .loop in let t = c4 .loop-test .taken in let p = c2 .slot .ensures ∙ ap (slotOf (c6 .args .n)) (c3 .link .ensures .0) in
     (slot-fits _ _ _ _ _ _ (v .inv .4) t (v .inv .0) (v .inv .5) _ p .1, count-fits _ _ _ _ _ _ (v .inv .4) t (v .inv .0) (v .inv .5) _ p _ (c1 .link3 .ensures .0))
 
-loop-less : tie.Need-loop-less Inv-loop μ-loop
-loop-less c = search needs
-
 loop-again : tie.Need-loop-again Inv-loop μ-loop
 loop-again c =
     let c1 = c .before .before in
@@ -104,15 +95,6 @@ loop-again c =
       gathered-turn _ _ _ _ _ _ (v .inv .4) t (v .inv .0) (v .inv .5) _ p _ (c5 .link2 .ensures .0) _ (c2 .link3 .ensures .0) _ _ _ (c4 .set-link .ensures) (c3 .set-link2 .ensures) (c1 .set-link3 .ensures),
     )
 
-same-length : tie.Need-same-length Inv-loop μ-loop
-same-length c = search needs
-
-same-length-2 : tie.Need-same-length-2 Inv-loop μ-loop
-same-length-2 c = search needs
-
-same-length-3 : tie.Need-same-length-3 Inv-loop μ-loop
-same-length-3 c = search needs
-
 returns : tie.Need-returns Inv-loop μ-loop
 returns c = let z : c .before .loop .i ≡ 0 = omega arith in rw z at (c .before .loop .inv .5)
 
@@ -123,18 +105,18 @@ gather-spec =
     Inv-loop
     μ-loop
     loop-holds
-    sub-i
+    (λ c. search needs)
     link-requires
-    slot-requires
+    (λ c κs. search needs)
     link-requires-2
     set-link-requires
     set-link-requires-2
     link-requires-3
     add-set-link
     set-link-requires-3
-    loop-less
+    (λ c. search needs)
     loop-again
-    same-length
-    same-length-2
-    same-length-3
+    (λ c. search needs)
+    (λ c. search needs)
+    (λ c. search needs)
     returns)

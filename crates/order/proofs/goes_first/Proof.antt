@@ -10,35 +10,14 @@ use Rattle.order.proofs.compare.Reads as compare-reads
 use Rattle.order.proofs.key_at.Reads as key-at-reads
 use Rattle.order.proofs.link.Reads as link-reads
 
-key-at-requires : tie.Need-key-at-requires
-key-at-requires c κs = search needs
-
-key-at-requires-2 : tie.Need-key-at-requires-2
-key-at-requires-2 c κs = search needs
-
 returns : tie.Need-returns
 returns c = first-less _ _ _ _ _ _ _ (c .before .before .key-at .ensures) (c .before .key-at2 .ensures) (c .if1 .taken)
 
 returns-2 : tie.Need-returns-2
 returns-2 c = first-more _ _ _ _ _ _ _ (c .before .before .before .key-at .ensures) (c .before .before .key-at2 .ensures) (c .if2 .taken)
 
-link-requires : tie.Need-link-requires
-link-requires c κs = search needs
-
-link-requires-2 : tie.Need-link-requires-2
-link-requires-2 c κs = search needs
-
 compare-requires : tie.Need-compare-requires
 compare-requires c κs = let s = c .before .before .before .before .before .before .before .before .before in (s .pre .0, rw (c .before .link .ensures .0) (s .pre .3), rw (c .link2 .ensures .0) (s .pre .4))
-
-enum-told : tie.Need-enum-told
-enum-told c = search needs
-
-enum-told-2 : tie.Need-enum-told-2
-enum-told-2 c = search needs
-
-enum-told-3 : tie.Need-enum-told-3
-enum-told-3 c = search needs
 
 returns-3 : tie.Need-returns-3
 returns-3 c =
@@ -77,16 +56,16 @@ pub goes-first-spec : {M : Type 1} → statement M
 goes-first-spec =
     tie.close
     (tie.spec
-    key-at-requires
-    key-at-requires-2
+    (λ c κs. search needs)
+    (λ c κs. search needs)
     returns
     returns-2
-    link-requires
-    link-requires-2
+    (λ c κs. search needs)
+    (λ c κs. search needs)
     compare-requires
-    enum-told
-    enum-told-2
-    enum-told-3
+    (λ c. search needs)
+    (λ c. search needs)
+    (λ c. search needs)
     returns-3
     returns-4
     returns-5)

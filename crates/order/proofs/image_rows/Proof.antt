@@ -12,9 +12,6 @@ use Rattle.order.proofs.lay.Reads as lay-reads
 use Rattle.order.proofs.link.Reads as link-reads
 use Rattle.order.proofs.sort_rows.Reads as sort-rows-reads
 
-clear-requires : tie.Need-clear-requires
-clear-requires c κs = search needs
-
 sort-rows-requires : tie.Need-sort-rows-requires
 sort-rows-requires c κs =
     let c1 = c .before .before .before .before .before .before .before .before in
@@ -22,9 +19,6 @@ sort-rows-requires c κs =
     let s = c2 .pre in
     let k = c1 .clear in
     sortable _ _ _ _ _ _ _ _ _ _ _ _ _ (s .0) (s .1) (k .last .1 .0) (k .last .1 .1 .0) (k .ensures) (k .kept .1 .0) (k .kept .1 .1 .0) (s .3) _ (s .2)
-
-link-requires : tie.Need-link-requires
-link-requires c κs = search needs
 
 lay-requires : tie.Need-lay-requires
 lay-requires c κs =
@@ -64,35 +58,11 @@ same-length c =
     let c2 = c1 .before .before .before .before .before .before .before .before .before in
     c1 .sort-rows .kept .1 .1 .1 .1 .0 ∙ c2 .clear .kept .1 .0
 
-same-length-2 : tie.Need-same-length-2
-same-length-2 c = search needs
-
 same-length-3 : tie.Need-same-length-3
 same-length-3 c =
     let c1 = c .before .before .before .before .before .before .before .before .before .before .before .before .before .before .before .before .before .before .before .before .before .before .before .before .before .before .before .before .before .before .before .before .before .before in
     let c2 = c1 .before .before .before .before .before .before .before .before .before in
     c1 .sort-rows .kept .1 .1 .1 .1 .1 .1 .0 ∙ c2 .clear .kept .1 .1 .0
-
-same-length-4 : tie.Need-same-length-4
-same-length-4 c = search needs
-
-same-length-5 : tie.Need-same-length-5
-same-length-5 c = search needs
-
-same-length-6 : tie.Need-same-length-6
-same-length-6 c = search needs
-
-same-length-7 : tie.Need-same-length-7
-same-length-7 c = search needs
-
-same-length-8 : tie.Need-same-length-8
-same-length-8 c = search needs
-
-same-length-9 : tie.Need-same-length-9
-same-length-9 c = search needs
-
-same-length-10 : tie.Need-same-length-10
-same-length-10 c = search needs
 
 returns : tie.Need-returns
 returns c =
@@ -119,19 +89,19 @@ pub image-rows-spec : {M : Type 1} → statement M
 image-rows-spec =
     tie.close
     (tie.spec
-    clear-requires
+    (λ c κs. search needs)
     sort-rows-requires
-    link-requires
+    (λ c κs. search needs)
     lay-requires
     bear-requires
     same-length
-    same-length-2
+    (λ c. search needs)
     same-length-3
-    same-length-4
-    same-length-5
-    same-length-6
-    same-length-7
-    same-length-8
-    same-length-9
-    same-length-10
+    (λ c. search needs)
+    (λ c. search needs)
+    (λ c. search needs)
+    (λ c. search needs)
+    (λ c. search needs)
+    (λ c. search needs)
+    (λ c. search needs)
     returns)

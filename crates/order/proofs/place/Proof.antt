@@ -8,15 +8,6 @@ use Rattle.order.proofs.link.Reads as link-reads
 use Rattle.order.proofs.set_link.Reads as set-link-reads
 use Rattle.order.proofs.spot.Reads as spot-reads
 
-spot-requires : tie.Need-spot-requires
-spot-requires c κs = search needs
-
-set-link-requires : tie.Need-set-link-requires
-set-link-requires c κs = search needs
-
-same-length : tie.Need-same-length
-same-length c = search needs
-
 returns : tie.Need-returns
 returns c =
     let c1 = c .before .before in
@@ -24,18 +15,6 @@ returns c =
     let c3 = c2 .before in
     let c4 = c3 .before .before .before .before .before in
     placed-front _ _ _ _ _ (c4 .pre) _ (c3 .spot .ensures) (c2 .if1 .taken) _ (c1 .set-link .ensures)
-
-link-requires : tie.Need-link-requires
-link-requires c κs = search needs
-
-set-link-requires-2 : tie.Need-set-link-requires-2
-set-link-requires-2 c κs = search needs
-
-set-link-requires-3 : tie.Need-set-link-requires-3
-set-link-requires-3 c κs = search needs
-
-same-length-2 : tie.Need-same-length-2
-same-length-2 c = search needs
 
 returns-2 : tie.Need-returns-2
 returns-2 c =
@@ -51,12 +30,12 @@ pub place-spec : {M : Type 1} → statement M
 place-spec =
     tie.close
     (tie.spec
-    spot-requires
-    set-link-requires
-    same-length
+    (λ c κs. search needs)
+    (λ c κs. search needs)
+    (λ c. search needs)
     returns
-    link-requires
-    set-link-requires-2
-    set-link-requires-3
-    same-length-2
+    (λ c κs. search needs)
+    (λ c κs. search needs)
+    (λ c κs. search needs)
+    (λ c. search needs)
     returns-2)

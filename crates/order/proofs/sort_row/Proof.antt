@@ -14,34 +14,10 @@ use Rattle.order.proofs.place.Reads as place-reads
 use Rattle.order.proofs.set_link.Reads as set-link-reads
 use Rattle.order.proofs.slot.Reads as slot-reads
 
-mul-key-of : tie.Need-mul-key-of
-mul-key-of c = search needs
-
-shared-slice-read-key-of : tie.Need-shared-slice-read-key-of
-shared-slice-read-key-of c = search needs
-
-shared-slice-read-key-of-2 : tie.Need-shared-slice-read-key-of-2
-shared-slice-read-key-of-2 c = search needs
-
-link-requires : tie.Need-link-requires
-link-requires c κs = search needs
-
 key-of-requires : tie.Need-key-of-requires
 key-of-requires c κs =
     let s = c .before .before .before .before .before .before .before .before .before .before .before in
     let h = s .pre .1 .table .labels (s .args .i) (s .pre .0) in (omega arith, omega (arith, c .link .ensures .1))
-
-mul-key : tie.Need-mul-key
-mul-key c = search needs
-
-slice-write-key : tie.Need-slice-write-key
-slice-write-key c = search needs
-
-link-requires-2 : tie.Need-link-requires-2
-link-requires-2 c κs = search needs
-
-slot-requires : tie.Need-slot-requires
-slot-requires c κs = search needs
 
 link-requires-3 : tie.Need-link-requires-3
 link-requires-3 c κs =
@@ -78,9 +54,6 @@ link-requires-4 c κs =
     let e = c1 .slot .ensures ∙ ap (slotOf (s .args .n)) (c2 .link2 .ensures .0) in
     slot-fits _ _ _ _ _ _ _ _ _ (s .pre .1) (s .pre .0) (s .pre .2) _ e .1
 
-add-set-link : tie.Need-add-set-link
-add-set-link c = search needs
-
 set-link-requires-2 : tie.Need-set-link-requires-2
 set-link-requires-2 c κs =
     let c1 = c .before in
@@ -89,18 +62,6 @@ set-link-requires-2 c κs =
     let s = c3 .before .before .before .before .before .before .before .before .before .before .before .before .before in
     let e = c2 .slot .ensures ∙ ap (slotOf (s .args .n)) (c3 .link2 .ensures .0) in
     (slot-fits _ _ _ _ _ _ _ _ _ (s .pre .1) (s .pre .0) (s .pre .2) _ e .1, count-fits _ _ _ _ _ _ _ _ _ (s .pre .1) (s .pre .0) (s .pre .2) _ e _ (c1 .link4 .ensures .0))
-
-same-length : tie.Need-same-length
-same-length c = search needs
-
-same-length-2 : tie.Need-same-length-2
-same-length-2 c = search needs
-
-same-length-3 : tie.Need-same-length-3
-same-length-3 c = search needs
-
-same-length-4 : tie.Need-same-length-4
-same-length-4 c = search needs
 
 returns : tie.Need-returns
 returns c =
@@ -123,23 +84,23 @@ pub sort-row-spec : {M : Type 1} → statement M
 sort-row-spec =
     tie.close
     (tie.spec
-    mul-key-of
-    shared-slice-read-key-of
-    shared-slice-read-key-of-2
-    link-requires
+    (λ c. search needs)
+    (λ c. search needs)
+    (λ c. search needs)
+    (λ c κs. search needs)
     key-of-requires
-    mul-key
-    slice-write-key
-    link-requires-2
-    slot-requires
+    (λ c. search needs)
+    (λ c. search needs)
+    (λ c κs. search needs)
+    (λ c κs. search needs)
     link-requires-3
     place-requires
     set-link-requires
     link-requires-4
-    add-set-link
+    (λ c. search needs)
     set-link-requires-2
-    same-length
-    same-length-2
-    same-length-3
-    same-length-4
+    (λ c. search needs)
+    (λ c. search needs)
+    (λ c. search needs)
+    (λ c. search needs)
     returns)

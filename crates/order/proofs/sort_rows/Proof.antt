@@ -22,14 +22,8 @@ loop-holds c =
     let c1 = c .before .before .before .before .before .before .before in
     (omega arith, refl, refl, refl, refl, c1 .pre .0, sorting-none _ _ _ _ _ _ _ _ (c1 .pre .0 .short) (c1 .pre .1))
 
-sub-i : tie.Need-sub-i Inv-loop μ-loop
-sub-i c = search needs
-
 sort-row-requires : tie.Need-sort-row-requires Inv-loop μ-loop
 sort-row-requires c κs = let v = c .before .before .before .before .before .loop in let z : suc (v .i - 1) ≡ v .i = omega arith in (omega arith, v .inv .5, rw z (v .inv .6))
-
-loop-less : tie.Need-loop-less Inv-loop μ-loop
-loop-less c = search needs
 
 loop-again : tie.Need-loop-again Inv-loop μ-loop
 loop-again c =
@@ -46,18 +40,6 @@ loop-again c =
       r .ensures,
     )
 
-same-length : tie.Need-same-length Inv-loop μ-loop
-same-length c = search needs
-
-same-length-2 : tie.Need-same-length-2 Inv-loop μ-loop
-same-length-2 c = search needs
-
-same-length-3 : tie.Need-same-length-3 Inv-loop μ-loop
-same-length-3 c = search needs
-
-same-length-4 : tie.Need-same-length-4 Inv-loop μ-loop
-same-length-4 c = search needs
-
 returns : tie.Need-returns Inv-loop μ-loop
 returns c = let v = c .before .loop in let z : v .i ≡ 0 = omega arith in sorted-all _ _ _ _ _ _ _ _ (v .inv .5) (rw z at (v .inv .6))
 
@@ -68,12 +50,12 @@ sort-rows-spec =
     Inv-loop
     μ-loop
     loop-holds
-    sub-i
+    (λ c. search needs)
     sort-row-requires
-    loop-less
+    (λ c. search needs)
     loop-again
-    same-length
-    same-length-2
-    same-length-3
-    same-length-4
+    (λ c. search needs)
+    (λ c. search needs)
+    (λ c. search needs)
+    (λ c. search needs)
     returns)

@@ -28,9 +28,6 @@ goes-first-requires c κs =
 returns : tie.Need-returns Inv-loop μ-loop
 returns c = sym (c .before .before .before .loop .inv .1 ∙ spot-here _ _ _ _ _ _ (c .before .before .before .loop .inv .0) (c .before .before .loop-test .taken) _ (c .before .goes-first .ensures) (c .if1 .taken))
 
-link-requires : tie.Need-link-requires Inv-loop μ-loop
-link-requires c κs = search needs
-
 loop-less : tie.Need-loop-less Inv-loop μ-loop
 loop-less c = goes-along _ _ _ _ (c .before .before .before .before .loop .inv .0) (c .before .before .before .loop-test .taken) (c .link .ensures .0) .1
 
@@ -56,7 +53,7 @@ spot-spec =
     loop-holds
     goes-first-requires
     returns
-    link-requires
+    (λ c κs. search needs)
     loop-less
     loop-again
     returns-2)

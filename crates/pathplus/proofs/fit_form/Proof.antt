@@ -7,26 +7,12 @@ use Rattle.pathplus.proofs.fit_form.Lts as lts
 use Rattle.normal.proofs.form_length.Reads as form-length-reads
 use Rattle.normal.proofs.write_form.Reads as write-form-reads
 
--- src/lib.rt:68:9
-form-length-requires : tie.Need-form-length-requires
-form-length-requires c κs = search needs
-
--- src/lib.rt:70:9
 returns : tie.Need-returns
 returns c = fitted-short _ _ _ (c .before .form-length .ensures) (c .if1 .taken)
 
--- src/lib.rt:75:5
-write-form-requires : tie.Need-write-form-requires
-write-form-requires c κs = search needs
-
--- src/lib.rt:56:1
-same-length : tie.Need-same-length
-same-length c = search needs
-
--- src/lib.rt:56:1
 returns-2 : tie.Need-returns-2
 returns-2 c = fitted-done _ _ _ _ (c .before .before .before .before .before .form-length .ensures) (c .before .before .before .before .if1 .left) (c .before .before .write-form .ensures .1)
 
 pub fit-form-spec : {M : Type 1} → statement M
 fit-form-spec =
-    tie.close (tie.spec form-length-requires returns write-form-requires same-length returns-2)
+    tie.close (tie.spec (λ c κs. search needs) returns (λ c κs. search needs) (λ c. search needs) returns-2)

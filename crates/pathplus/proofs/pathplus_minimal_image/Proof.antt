@@ -8,22 +8,12 @@ use Rattle.pathplus.proofs.pathplus_minimal_image.Lts as lts
 use Rattle.pathplus.proofs.minimal_image.Reads as minimal-image-reads
 use Rattle.pathplus.proofs.written_number.Reads as written-number-reads
 
--- src/lib.rt:219:20
-minimal-image-requires : tie.Need-minimal-image-requires
-minimal-image-requires c κs = search needs
-
--- src/lib.rt:219:5
 written-number-requires : tie.Need-written-number-requires
 written-number-requires c κs = short-writes minimalImage short-minimal _ _ _ _ (c .before .before .minimal-image .ensures)
 
--- src/lib.rt:215:1
-same-length : tie.Need-same-length
-same-length c = search needs
-
--- src/lib.rt:215:1
 returns : tie.Need-returns
 returns c = (_, c .written-number .ensures, short-writes minimalImage short-minimal _ _ _ _ (c .before .before .before .minimal-image .ensures), c .before .before .before .minimal-image .ensures)
 
 pub pathplus-minimal-image-spec : {M : Type 1} → statement M
 pathplus-minimal-image-spec =
-    tie.close (tie.spec minimal-image-requires written-number-requires same-length returns)
+    tie.close (tie.spec (λ c κs. search needs) written-number-requires (λ c. search needs) returns)

@@ -8,22 +8,12 @@ use Rattle.pathplus.proofs.pathplus_normal_form.Lts as lts
 use Rattle.pathplus.proofs.normal_form.Reads as normal-form-reads
 use Rattle.pathplus.proofs.written_number.Reads as written-number-reads
 
--- src/lib.rt:226:20
-normal-form-requires : tie.Need-normal-form-requires
-normal-form-requires c κs = search needs
-
--- src/lib.rt:226:5
 written-number-requires : tie.Need-written-number-requires
 written-number-requires c κs = short-writes normalForm short-normal _ _ _ _ (c .before .before .normal-form .ensures)
 
--- src/lib.rt:222:1
-same-length : tie.Need-same-length
-same-length c = search needs
-
--- src/lib.rt:222:1
 returns : tie.Need-returns
 returns c = (_, c .written-number .ensures, short-writes normalForm short-normal _ _ _ _ (c .before .before .before .normal-form .ensures), c .before .before .before .normal-form .ensures)
 
 pub pathplus-normal-form-spec : {M : Type 1} → statement M
 pathplus-normal-form-spec =
-    tie.close (tie.spec normal-form-requires written-number-requires same-length returns)
+    tie.close (tie.spec (λ c κs. search needs) written-number-requires (λ c. search needs) returns)

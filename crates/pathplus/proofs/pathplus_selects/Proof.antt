@@ -7,22 +7,12 @@ use Rattle.pathplus.proofs.pathplus_selects.Lts as lts
 use Rattle.pathplus.proofs.selects.Reads as selects-reads
 use Rattle.pathplus.proofs.told_number.Reads as told-number-reads
 
--- src/lib.rt:233:17
-selects-requires : tie.Need-selects-requires
-selects-requires c κs = search needs
-
--- src/lib.rt:233:5
 told-number-requires : tie.Need-told-number-requires
 told-number-requires c κs = short-selects _ _ _ (c .before .before .selects .ensures)
 
--- src/lib.rt:229:1
-same-length : tie.Need-same-length
-same-length c = search needs
-
--- src/lib.rt:229:1
 returns : tie.Need-returns
 returns c = (_, c .told-number .ensures, short-selects _ _ _ (c .before .before .before .selects .ensures), c .before .before .before .selects .ensures)
 
 pub pathplus-selects-spec : {M : Type 1} → statement M
 pathplus-selects-spec =
-    tie.close (tie.spec selects-requires told-number-requires same-length returns)
+    tie.close (tie.spec (λ c κs. search needs) told-number-requires (λ c. search needs) returns)

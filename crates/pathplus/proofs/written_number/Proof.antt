@@ -8,27 +8,15 @@ use Rattle.pathplus.proofs.written_number.Reads as reads
 use Rattle.pathplus.proofs.written_number.Lts as lts
 use Rattle.pathplus.proofs.packed.Reads as packed-reads
 
--- src/lib.rt:190:25
-enum-known-answer : tie.Need-enum-known-answer
-enum-known-answer c = search needs
-
--- src/lib.rt:190:37
 packed-requires : tie.Need-packed-requires
 packed-requires c κs = (omega arith, subst (λ a. Short (writtenOf a)) (c .before .answer .given .1) (c .before .before .before .pre))
 
--- src/lib.rt:191:28
-enum-known-answer-2 : tie.Need-enum-known-answer-2
-enum-known-answer-2 c = search needs
-
--- src/lib.rt:191:47
 packed-requires-2 : tie.Need-packed-requires-2
 packed-requires-2 c κs = subst (λ a. Short (writtenOf a)) (c .before .answer2 .given .1) (c .before .before .before .pre)
 
--- src/lib.rt:185:1
 returns : tie.Need-returns
 returns c = subst (λ a. c .packed .result ≡ numberOf (writtenOf a)) (sym (c .before .before .answer .given .1)) (omega (arith, c .packed .ensures))
 
--- src/lib.rt:185:1
 returns-2 : tie.Need-returns-2
 returns-2 c = subst (λ a. c .packed2 .result ≡ numberOf (writtenOf a)) (sym (c .before .before .answer2 .given .1)) (c .packed2 .ensures)
 
@@ -36,9 +24,9 @@ pub written-number-spec : {M : Type 1} → statement M
 written-number-spec =
     tie.close
     (tie.spec
-    enum-known-answer
+    (λ c. search needs)
     packed-requires
-    enum-known-answer-2
+    (λ c. search needs)
     packed-requires-2
     returns
     returns-2)

@@ -13,7 +13,6 @@ use Rattle.fold.proofs.keep_rows.Reads as keep-rows-reads
 use Rattle.order.proofs.image_rows.Reads as image-rows-reads
 use Rattle.tree.proofs.built_rows.Reads as built-rows-reads
 
--- src/lib.rt:133:9
 built-rows-requires : tie.Need-built-rows-requires
 built-rows-requires c κs =
     let p = c .before .before .before .before .before .before .before .before .before .before .before .before .before .before .before .pre in (
@@ -22,14 +21,12 @@ built-rows-requires c κs =
       record { codes = search needs; marks = search needs; counts = p .1 .counts; spans = p .1 .spans; ups = p .1 .ups },
     )
 
--- src/lib.rt:145:5
 fold-rows-requires : tie.Need-fold-rows-requires
 fold-rows-requires c κs =
     let b = c .before .before .before .before .before .before .before .before .before .before .before .before .before .before .before .before .before .built-rows in
     let r = b .ensures .rows in
     (record { few = r .few; codes = r .codes; marks = r .marks; spans = r .spans; ups = r .ups; laid = r .laid; hung = r .hung; single = r .single }, omega (arith, b .kept .1 .1 .0))
 
--- src/lib.rt:147:9
 keep-rows-requires : tie.Need-keep-rows-requires
 keep-rows-requires c κs =
     let b = c .before .before .before .before .before .before .before .before .before .before .before .before .before .before .before .before .before .before .before .before .before .before .before .before .before .before .before .built-rows in
@@ -37,7 +34,6 @@ keep-rows-requires c κs =
     let few = b .ensures .rows .few in
     (folded-remains _ _ _ _ _ _ _ (b .ensures .rows) (f .ensures) (f .kept .1 .1 .1 .0), omega (arith, few), omega (arith, few, b .kept .1 .1 .1 .1 .0))
 
--- src/lib.rt:157:5
 image-rows-requires : tie.Need-image-rows-requires
 image-rows-requires c κs =
     let b = c .before .before .before .before .before .before .before .before .before .before .before .before .before .before .before .before .before .before .before .before .before .before .before .before .before .before .before .before .before .before .before .before .before .before .before .before .before .before .before .before .before .before .before .before .before .built-rows .kept in
@@ -50,19 +46,15 @@ image-rows-requires c κs =
       rows-first _ _ _ _ _ _ (k .ensures .rows),
     )
 
--- src/lib.rt:116:1
 same-length-3 : tie.Need-same-length-3
 same-length-3 c = c .before .before .before .before .before .before .before .before .before .before .before .before .before .before .before .image-rows .kept .1 .1 .1 .1 .1 .1 .1 .1 .1 .1 .1 .0 ∙ c .before .before .before .before .before .before .before .before .before .before .before .before .before .before .before .before .before .before .before .before .before .before .before .before .before .before .before .before .before .before .before .before .before .before .before .before .before .before .before .before .before .before .before .before .before .before .before .before .before .before .before .before .before .before .before .before .before .before .before .before .before .built-rows .kept .1 .1 .1 .1 .1 .1 .1 .0
 
--- src/lib.rt:116:1
 same-length-4 : tie.Need-same-length-4
 same-length-4 c = c .before .before .before .before .before .before .before .before .before .before .before .before .before .before .before .image-rows .kept .1 .1 .1 .1 .1 .1 .1 .1 .1 .1 .1 .1 .0 ∙ c .before .before .before .before .before .before .before .before .before .before .before .before .before .before .before .before .before .before .before .before .before .before .before .before .before .before .before .before .before .before .before .before .before .before .before .before .before .before .before .before .before .before .before .before .before .before .before .before .before .before .before .before .before .before .before .before .before .before .before .before .before .built-rows .kept .1 .1 .1 .1 .1 .1 .1 .1 .0
 
--- src/lib.rt:116:1
 same-length-5 : tie.Need-same-length-5
 same-length-5 c = c .before .before .before .before .before .before .before .before .before .before .before .before .before .before .before .image-rows .kept .1 .1 .1 .1 .1 .1 .1 .1 .1 .1 .1 .1 .1 .0 ∙ c .before .before .before .before .before .before .before .before .before .before .before .before .before .before .before .before .before .before .before .before .before .before .before .before .before .before .before .before .before .before .before .before .before .before .before .before .before .before .before .before .before .before .before .fold-rows .kept .1 .1 .1 .0 ∙ c .before .before .before .before .before .before .before .before .before .before .before .before .before .before .before .before .before .before .before .before .before .before .before .before .before .before .before .before .before .before .before .before .before .before .before .before .before .before .before .before .before .before .before .before .before .before .before .before .before .before .before .before .before .before .before .before .before .before .before .before .before .built-rows .kept .1 .1 .1 .1 .1 .1 .1 .1 .1 .0
 
--- src/lib.rt:116:1
 returns : tie.Need-returns
 returns c = minimal-rows _ _ _ _ _ _ _ (c .before .before .before .before .before .before .before .before .before .before .before .before .before .before .before .before .before .before .before .before .before .before .before .before .before .before .before .before .before .before .before .before .before .before .before .before .before .before .before .before .before .before .before .before .before .before .before .before .before .before .before .before .before .before .before .before .before .before .before .before .before .built-rows .ensures) _ _ _ _ _ _ _ _ _ _ (c .before .before .before .before .before .before .before .before .before .before .before .before .before .before .before .before .before .before .before .before .before .before .before .before .before .before .before .before .before .before .before .before .before .before .before .before .before .before .before .before .before .before .before .fold-rows .ensures) (c .before .before .before .before .before .before .before .before .before .before .before .before .before .before .before .before .before .before .before .before .before .before .before .before .before .before .before .before .before .before .before .before .before .keep-rows .ensures) (c .before .before .before .before .before .before .before .before .before .before .before .before .before .before .before .image-rows .ensures .0) (c .before .before .before .before .before .before .before .before .before .before .before .before .before .before .before .image-rows .ensures .1)
 

@@ -62,152 +62,41 @@ sub-push-node c = code-fits (is-label (c .before .before .before .before .before
 push-node-requires-2 : tie.Need-push-node-requires-2
 push-node-requires-2 c κs = push-asks _ _ _ (label _) (sign-label _ (is-label (c .before .before .before .before .before .match .rest))) (no-step _ (is-label (c .before .before .before .before .before .match .rest))) (c .before .before .before .before .before .before .before .before .before .before .before .pre)
 
-same-length : tie.Need-same-length
-same-length c = search needs
-
 returns : tie.Need-returns
 unfolding signOf isStep
 returns c = λ st st′ at h t. push-holds _ _ _ empty (ap signOf (c .before .before .before .before .match .keys1)) (rw (c .before .before .before .before .match .keys1)) _ _ (c .before .before .push-empty .ensures _ _ _ _ (h .stands .sound)) st st′ at h t
-
-same-length-2 : tie.Need-same-length-2
-same-length-2 c = search needs
-
-same-length-3 : tie.Need-same-length-3
-same-length-3 c = search needs
-
-same-length-4 : tie.Need-same-length-4
-same-length-4 c = search needs
-
-same-length-5 : tie.Need-same-length-5
-same-length-5 c = search needs
-
-same-length-6 : tie.Need-same-length-6
-same-length-6 c = search needs
 
 returns-2 : tie.Need-returns-2
 unfolding signOf isStep
 returns-2 c = push-holds _ _ _ self (ap signOf (c .before .before .before .before .before .before .before .before .before .before .before .before .before .before .before .before .match .keys2)) (rw (c .before .before .before .before .before .before .before .before .before .before .before .before .before .before .before .before .match .keys2)) _ _ (c .before .before .before .before .before .before .before .before .before .before .push-node .ensures)
 
-same-length-7 : tie.Need-same-length-7
-same-length-7 c = search needs
-
-same-length-8 : tie.Need-same-length-8
-same-length-8 c = search needs
-
-same-length-9 : tie.Need-same-length-9
-same-length-9 c = search needs
-
-same-length-10 : tie.Need-same-length-10
-same-length-10 c = search needs
-
-same-length-11 : tie.Need-same-length-11
-same-length-11 c = search needs
-
 returns-3 : tie.Need-returns-3
 unfolding signOf isStep
 returns-3 c = push-holds _ _ _ child (ap signOf (c .before .before .before .before .before .before .before .before .before .before .before .before .before .before .before .before .match .keys3)) (rw (c .before .before .before .before .before .before .before .before .before .before .before .before .before .before .before .before .match .keys3)) _ _ (c .before .before .before .before .before .before .before .before .before .before .push-edge .ensures)
-
-same-length-12 : tie.Need-same-length-12
-same-length-12 c = search needs
-
-same-length-13 : tie.Need-same-length-13
-same-length-13 c = search needs
-
-same-length-14 : tie.Need-same-length-14
-same-length-14 c = search needs
-
-same-length-15 : tie.Need-same-length-15
-same-length-15 c = search needs
-
-same-length-16 : tie.Need-same-length-16
-same-length-16 c = search needs
 
 returns-4 : tie.Need-returns-4
 unfolding signOf isStep
 returns-4 c = push-holds _ _ _ parent (ap signOf (c .before .before .before .before .before .before .before .before .before .before .before .before .before .before .before .before .match .keys4)) (rw (c .before .before .before .before .before .before .before .before .before .before .before .before .before .before .before .before .match .keys4)) _ _ (c .before .before .before .before .before .before .before .before .before .before .push-edge2 .ensures)
 
-same-length-17 : tie.Need-same-length-17
-same-length-17 c = search needs
-
-same-length-18 : tie.Need-same-length-18
-same-length-18 c = search needs
-
-same-length-19 : tie.Need-same-length-19
-same-length-19 c = search needs
-
-same-length-20 : tie.Need-same-length-20
-same-length-20 c = search needs
-
-same-length-21 : tie.Need-same-length-21
-same-length-21 c = search needs
-
 returns-5 : tie.Need-returns-5
 unfolding signOf isStep
 returns-5 c = two-holds _ _ _ comp (ap signOf (c .before .before .before .before .before .before .before .before .before .before .before .before .before .before .before .before .match .keys5)) false (λ d e. refl) (λ d e. refl) _ _ (c .before .before .before .before .before .before .before .before .before .before .combine .ensures)
-
-same-length-22 : tie.Need-same-length-22
-same-length-22 c = search needs
-
-same-length-23 : tie.Need-same-length-23
-same-length-23 c = search needs
 
 returns-6 : tie.Need-returns-6
 unfolding signOf isStep
 returns-6 c = one-holds _ _ _ proj1 (ap signOf (c .before .before .before .before .before .match .keys6)) bothAtS (λ e. refl) (λ e. refl) _ _ (c .before .before .both-at-s .ensures _ _ _)
 
-same-length-24 : tie.Need-same-length-24
-same-length-24 c = search needs
-
-same-length-25 : tie.Need-same-length-25
-same-length-25 c = search needs
-
 returns-7 : tie.Need-returns-7
 unfolding signOf isStep
 returns-7 c = one-holds _ _ _ proj2 (ap signOf (c .before .before .before .before .before .match .keys7)) bothAtD (λ e. refl) (λ e. refl) _ _ (c .before .before .both-at-d .ensures _ _ _)
-
-same-length-26 : tie.Need-same-length-26
-same-length-26 c = search needs
-
-same-length-27 : tie.Need-same-length-27
-same-length-27 c = search needs
-
-same-length-28 : tie.Need-same-length-28
-same-length-28 c = search needs
-
-same-length-29 : tie.Need-same-length-29
-same-length-29 c = search needs
-
-same-length-30 : tie.Need-same-length-30
-same-length-30 c = search needs
 
 returns-8 : tie.Need-returns-8
 unfolding signOf isStep
 returns-8 c = two-holds _ _ _ inter (ap signOf (c .before .before .before .before .before .before .before .before .before .before .before .before .before .before .before .before .match .keys8)) true (λ d e. refl) (λ d e. refl) _ _ (c .before .before .before .before .before .before .before .before .before .before .combine2 .ensures)
 
-same-length-31 : tie.Need-same-length-31
-same-length-31 c = search needs
-
-same-length-32 : tie.Need-same-length-32
-same-length-32 c = search needs
-
 returns-9 : tie.Need-returns-9
 unfolding signOf isStep
 returns-9 c = one-holds _ _ _ inv (ap signOf (c .before .before .before .before .before .before .before .match .keys9)) exchanged (λ e. refl) (λ e. refl) _ _ (c .before .before .before .before .exchange .ensures _ _ _)
-
-same-length-33 : tie.Need-same-length-33
-same-length-33 c = search needs
-
-same-length-34 : tie.Need-same-length-34
-same-length-34 c = search needs
-
-same-length-35 : tie.Need-same-length-35
-same-length-35 c = search needs
-
-same-length-36 : tie.Need-same-length-36
-same-length-36 c = search needs
-
-same-length-37 : tie.Need-same-length-37
-same-length-37 c = search needs
 
 returns-10 : tie.Need-returns-10
 returns-10 c = push-holds _ _ _ (label _) (sign-label _ (is-label (c .before .before .before .before .before .before .before .before .before .before .before .before .before .before .before .before .match .rest))) (no-step _ (is-label (c .before .before .before .before .before .before .before .before .before .before .before .before .before .before .before .before .match .rest))) _ _ (label-stands _ _ _ _ _ (is-label (c .before .before .before .before .before .before .before .before .before .before .before .before .before .before .before .before .match .rest)) (c .before .before .before .before .before .before .before .before .before .before .push-node2 .ensures))
@@ -227,50 +116,50 @@ apply-sign-spec =
     exchange-requires
     sub-push-node
     push-node-requires-2
-    same-length
+    (λ c. search needs)
     returns
-    same-length-2
-    same-length-3
-    same-length-4
-    same-length-5
-    same-length-6
+    (λ c. search needs)
+    (λ c. search needs)
+    (λ c. search needs)
+    (λ c. search needs)
+    (λ c. search needs)
     returns-2
-    same-length-7
-    same-length-8
-    same-length-9
-    same-length-10
-    same-length-11
+    (λ c. search needs)
+    (λ c. search needs)
+    (λ c. search needs)
+    (λ c. search needs)
+    (λ c. search needs)
     returns-3
-    same-length-12
-    same-length-13
-    same-length-14
-    same-length-15
-    same-length-16
+    (λ c. search needs)
+    (λ c. search needs)
+    (λ c. search needs)
+    (λ c. search needs)
+    (λ c. search needs)
     returns-4
-    same-length-17
-    same-length-18
-    same-length-19
-    same-length-20
-    same-length-21
+    (λ c. search needs)
+    (λ c. search needs)
+    (λ c. search needs)
+    (λ c. search needs)
+    (λ c. search needs)
     returns-5
-    same-length-22
-    same-length-23
+    (λ c. search needs)
+    (λ c. search needs)
     returns-6
-    same-length-24
-    same-length-25
+    (λ c. search needs)
+    (λ c. search needs)
     returns-7
-    same-length-26
-    same-length-27
-    same-length-28
-    same-length-29
-    same-length-30
+    (λ c. search needs)
+    (λ c. search needs)
+    (λ c. search needs)
+    (λ c. search needs)
+    (λ c. search needs)
     returns-8
-    same-length-31
-    same-length-32
+    (λ c. search needs)
+    (λ c. search needs)
     returns-9
-    same-length-33
-    same-length-34
-    same-length-35
-    same-length-36
-    same-length-37
+    (λ c. search needs)
+    (λ c. search needs)
+    (λ c. search needs)
+    (λ c. search needs)
+    (λ c. search needs)
     returns-10)

@@ -14,9 +14,6 @@ use Rattle.glue.proofs.gluing.shift_rows.Reads as shift-rows-reads
 shift-rows-requires : tie.Need-shift-rows-requires
 shift-rows-requires c κs = (c .before .before .before .before .pre .0, links-small _ _ _ (c .before .before .before .before .pre .1 .1 .tree) (let r = c .before .before .before .before .pre .0 .small in omega arith))
 
-add-glue-rows : tie.Need-add-glue-rows
-add-glue-rows c = search needs
-
 add-glue-rows-2 : tie.Need-add-glue-rows-2
 add-glue-rows-2 c = let r = c .before .before .before .before .before .before .before .before .before .pre .0 .small in let m = live-below _ _ _ _ (c .before .before .before .before .before .before .before .before .before .pre .1 .1 .sLive) in omega arith
 
@@ -27,12 +24,6 @@ glue-rows-requires : tie.Need-glue-rows-requires
 glue-rows-requires c κs = let r = c .before .before .before .before .before .before .before .before .before .pre .0 in let k = c .before .before .before .before .shift-rows .kept .0 in
     (record { small = r .small; parents = omega arith; labels = r .labels }, safe-two _ _ _ _ _ _ _ _ (c .before .before .before .before .before .before .before .before .before .pre .1 .0) (c .before .before .before .before .before .before .before .before .before .pre .1 .1) _ (c .before .before .before .before .shift-rows .ensures) _ _ (c .before .before .before .before .before .before .before .before .before .pre .1 .0 .dLive) (c .before .before .before .before .before .before .before .before .before .pre .1 .1 .sLive))
 
-same-length : tie.Need-same-length
-same-length c = search needs
-
-same-length-2 : tie.Need-same-length-2
-same-length-2 c = search needs
-
 returns : tie.Need-returns
 returns c = compose-end _ _ _ _ _ _ _ _ (c .before .before .before .before .before .before .before .before .before .before .before .before .before .before .pre .1 .0) (c .before .before .before .before .before .before .before .before .before .before .before .before .before .before .pre .1 .1) _ (c .before .before .before .before .before .before .before .before .before .shift-rows .ensures) (c .before .before .before .before .glue-rows .result) _ _ _ (c .before .before .before .before .glue-rows .ensures)
 
@@ -41,10 +32,10 @@ compose-spec =
     tie.close
     (tie.spec
     shift-rows-requires
-    add-glue-rows
+    (λ c. search needs)
     add-glue-rows-2
     add-glue-rows-3
     glue-rows-requires
-    same-length
-    same-length-2
+    (λ c. search needs)
+    (λ c. search needs)
     returns)

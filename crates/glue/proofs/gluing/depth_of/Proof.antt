@@ -22,23 +22,8 @@ abbrev μ-loop : tie.MeasureT-loop
 loop-holds : tie.Need-loop-holds Inv-loop μ-loop
 loop-holds c = (omega arith, omega arith, depth-start (c .before .before .args .n) (table (c .before .before .args .n) (c .before .before .args .parent .now) (c .before .before .args .label .now)) (c .before .before .args .x))
 
-mul-p : tie.Need-mul-p Inv-loop μ-loop
-mul-p c = search needs
-
-shared-slice-read-p : tie.Need-shared-slice-read-p Inv-loop μ-loop
-shared-slice-read-p c = search needs
-
 returns : tie.Need-returns Inv-loop μ-loop
 returns c = depth-top _ _ _ _ _ _ (c .before .before .before .loop .inv .2) (omega arith) (omega arith) (c .if1 .taken)
-
-wide-requires : tie.Need-wide-requires Inv-loop μ-loop
-wide-requires c κs = search needs
-
-add-k : tie.Need-add-k Inv-loop μ-loop
-add-k c = search needs
-
-loop-less : tie.Need-loop-less Inv-loop μ-loop
-loop-less c = search needs
 
 loop-again : tie.Need-loop-again Inv-loop μ-loop
 loop-again c = (omega arith, rw (c .wide .ensures .0) (c .before .before .before .before .before .before .before .pre .1 _ _ (c .before .before .before .before .loop .inv .1) (parent-some _ (c .before .if1 .left))), depth-up _ _ _ _ _ _ (c .before .before .before .before .loop .inv .2) (omega arith) (omega arith) _ (c .wide .ensures .0) (c .before .if1 .left))
@@ -53,11 +38,11 @@ depth-of-spec =
     Inv-loop
     μ-loop
     loop-holds
-    mul-p
-    shared-slice-read-p
+    (λ c. search needs)
+    (λ c. search needs)
     returns
-    wide-requires
-    add-k
-    loop-less
+    (λ c κs. search needs)
+    (λ c. search needs)
+    (λ c. search needs)
     loop-again
     returns-2)

@@ -15,23 +15,11 @@ depth-of-requires c κs = ((c .before .before .before .before .pre .0 .0, c .bef
 depth-of-requires-2 : tie.Need-depth-of-requires-2
 depth-of-requires-2 c κs = ((c .before .before .before .before .before .before .before .pre .0 .0, c .before .before .before .before .before .before .before .pre .0 .2), links-in _ _ _ (c .before .before .before .before .before .before .before .pre .1))
 
-same-length : tie.Need-same-length
-same-length c = search needs
-
-same-length-2 : tie.Need-same-length-2
-same-length-2 c = search needs
-
 returns : tie.Need-returns
 returns c = within-none _ _ _ (c .before .before .before .before .before .before .before .before .before .pre .1) _ _ (c .before .before .before .before .before .before .before .before .before .pre .0 .1) (c .before .before .before .before .before .before .before .before .before .pre .0 .2) _ _ (c .before .before .before .before .depth-of .ensures) (c .before .depth-of2 .ensures) _ _ (c .if1 .taken)
 
 glue-rows-requires : tie.Need-glue-rows-requires
 glue-rows-requires c κs = (c .before .before .before .before .before .before .before .before .before .before .before .pre .0 .0, within-safe _ _ _ (c .before .before .before .before .before .before .before .before .before .before .before .pre .1) _ _ (c .before .before .before .before .before .before .before .before .before .before .before .pre .0 .1) (c .before .before .before .before .before .before .before .before .before .before .before .pre .0 .2) _ _ (c .before .before .before .before .before .before .depth-of .ensures) (c .before .before .before .depth-of2 .ensures) (c .before .before .if1 .left))
-
-same-length-3 : tie.Need-same-length-3
-same-length-3 c = search needs
-
-same-length-4 : tie.Need-same-length-4
-same-length-4 c = search needs
 
 returns-2 : tie.Need-returns-2
 returns-2 c = within-end _ _ _ (c .before .before .before .before .before .before .before .before .before .before .before .before .before .before .before .before .pre .1) _ _ (c .before .before .before .before .before .before .before .before .before .before .before .before .before .before .before .before .pre .0 .1) (c .before .before .before .before .before .before .before .before .before .before .before .before .before .before .before .before .pre .0 .2) _ _ (c .before .before .before .before .before .before .before .before .before .before .before .depth-of .ensures) (c .before .before .before .before .before .before .before .before .depth-of2 .ensures) (c .before .before .before .before .before .before .before .if1 .left) (c .before .before .before .before .glue-rows .result) _ _ _ _ _ (c .before .before .before .before .glue-rows .ensures)
@@ -42,10 +30,10 @@ glue-within-spec =
     (tie.spec
     depth-of-requires
     depth-of-requires-2
-    same-length
-    same-length-2
+    (λ c. search needs)
+    (λ c. search needs)
     returns
     glue-rows-requires
-    same-length-3
-    same-length-4
+    (λ c. search needs)
+    (λ c. search needs)
     returns-2)

@@ -18,41 +18,14 @@ Inv-loop parent₀ label na nb end k i₀ parent i = (na ≤ i) × (i ≤ end) �
 abbrev μ-loop : tie.MeasureT-loop
 μ-loop parent₀ label na nb end k i₀ parent i = end - i
 
-add-end : tie.Need-add-end Inv-loop μ-loop
-add-end c = search needs
-
-cast-k : tie.Need-cast-k Inv-loop μ-loop
-cast-k c = search needs
-
 loop-holds : tie.Need-loop-holds Inv-loop μ-loop
 loop-holds c = (omega arith, omega arith, refl, swept-start _ _ _ _)
-
-mul-shifted : tie.Need-mul-shifted Inv-loop μ-loop
-mul-shifted c = search needs
-
-slice-read-shifted : tie.Need-slice-read-shifted Inv-loop μ-loop
-slice-read-shifted c = search needs
 
 shifted-requires : tie.Need-shifted-requires Inv-loop μ-loop
 shifted-requires c κs = (omega arith, shift-small _ _ _ _ _ (c .before .before .loop .inv .3) (c .before .before .loop .inv .0) (c .before .loop-test .taken) (c .before .before .before .before .before .pre .1))
 
-mul-parent : tie.Need-mul-parent Inv-loop μ-loop
-mul-parent c = search needs
-
-slice-write-parent : tie.Need-slice-write-parent Inv-loop μ-loop
-slice-write-parent c = search needs
-
-add-i : tie.Need-add-i Inv-loop μ-loop
-add-i c = search needs
-
-loop-less : tie.Need-loop-less Inv-loop μ-loop
-loop-less c = search needs
-
 loop-again : tie.Need-loop-again Inv-loop μ-loop
 loop-again c = (omega arith, omega arith, refl, here-more _ _ _ _ _ _ (c .before .before .before .loop .inv .3) (c .before .before .before .loop .inv .0) (let h = c .before .before .before .loop .inv .3 .same in omega arith) (c .shifted .ensures))
-
-same-length : tie.Need-same-length Inv-loop μ-loop
-same-length c = search needs
 
 returns : tie.Need-returns Inv-loop μ-loop
 returns c = shift-end _ _ _ _ _ (swept-end _ _ _ _ _ _ _ (c .before .loop .inv .3) (omega arith))
@@ -63,16 +36,16 @@ shift-rows-spec =
     (tie.spec
     Inv-loop
     μ-loop
-    add-end
-    cast-k
+    (λ c. search needs)
+    (λ c. search needs)
     loop-holds
-    mul-shifted
-    slice-read-shifted
+    (λ c. search needs)
+    (λ c. search needs)
     shifted-requires
-    mul-parent
-    slice-write-parent
-    add-i
-    loop-less
+    (λ c. search needs)
+    (λ c. search needs)
+    (λ c. search needs)
+    (λ c. search needs)
     loop-again
-    same-length
+    (λ c. search needs)
     returns)

@@ -13,30 +13,6 @@ use Rattle.glue.proofs.merging.relink_rows.Reads as relink-rows-reads
 use Rattle.glue.proofs.merging.relinked.Reads as relinked-reads
 use Rattle.glue.proofs.merging.renumber.Reads as renumber-reads
 
-sub-last : tie.Need-sub-last
-sub-last c = search needs
-
-cast-a : tie.Need-cast-a
-cast-a c = search needs
-
-cast-b : tie.Need-cast-b
-cast-b c = search needs
-
-relink-rows-requires : tie.Need-relink-rows-requires
-relink-rows-requires c κs = search needs
-
-relink-rows-requires-2 : tie.Need-relink-rows-requires-2
-relink-rows-requires-2 c κs = search needs
-
-pull-labels-requires : tie.Need-pull-labels-requires
-pull-labels-requires c κs = search needs
-
-renumber-requires : tie.Need-renumber-requires
-renumber-requires c κs = search needs
-
-relinked-requires : tie.Need-relinked-requires
-relinked-requires c κs = search needs
-
 mul-parent : tie.Need-mul-parent
 mul-parent c = let w = moved-row _ (c .before .before .before .before .before .before .before .before .before .before .before .before .before .before .before .before .args .y) (c .before .before .before .before .before .before .before .before .before .before .before .before .before .before .before .before .args .n) _ (c .before .renumber .ensures) (c .before .before .before .before .before .before .before .before .before .before .before .before .before .before .before .before .pre .0 .3) (omega arith) (omega arith) in omega arith
 
@@ -52,9 +28,6 @@ slice-write-label c = let w = moved-row _ (c .before .before .before .before .be
 same-length : tie.Need-same-length
 same-length c = length-set (c .before .before .before .before .before .before .before .before .relink-rows2 .last .0) (c .before .renumber .result) (c .relinked .result) ∙ c .before .before .before .before .before .before .before .before .relink-rows2 .ensures .same ∙ c .before .before .before .before .before .before .before .before .before .before .before .before .relink-rows .ensures .same
 
-same-length-2 : tie.Need-same-length-2
-same-length-2 c = search needs
-
 returns : tie.Need-returns
 returns c = merged-end _ _ _ _ _ _ _ _ _ (c .before .before .before .before .before .before .before .before .before .before .before .before .before .before .before .before .pre .1) (c .before .before .before .before .before .before .before .before .before .before .before .before .relink-rows .ensures) (c .before .before .before .before .before .before .before .before .relink-rows2 .ensures) (c .before .before .before .before .pull-labels .ensures) _ _ _ _ _ refl (c .before .before .before .before .before .before .before .before .before .before .before .before .before .before .before .before .pre .0 .0) (c .before .before .before .before .before .before .before .before .before .before .before .before .before .before .before .before .pre .0 .3) (omega arith) (omega arith) (omega arith) (omega arith) (c .before .renumber .ensures) (c .relinked .ensures)
 
@@ -62,18 +35,18 @@ pub merge-rows-spec : {M : Type 1} → statement M
 merge-rows-spec =
     tie.close
     (tie.spec
-    sub-last
-    cast-a
-    cast-b
-    relink-rows-requires
-    relink-rows-requires-2
-    pull-labels-requires
-    renumber-requires
-    relinked-requires
+    (λ c. search needs)
+    (λ c. search needs)
+    (λ c. search needs)
+    (λ c κs. search needs)
+    (λ c κs. search needs)
+    (λ c κs. search needs)
+    (λ c κs. search needs)
+    (λ c κs. search needs)
     mul-parent
     slice-write-parent
     mul-label
     slice-write-label
     same-length
-    same-length-2
+    (λ c. search needs)
     returns)

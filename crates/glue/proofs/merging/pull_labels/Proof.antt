@@ -19,26 +19,11 @@ abbrev μ-loop : tie.MeasureT-loop
 loop-holds : tie.Need-loop-holds Inv-loop μ-loop
 loop-holds c = (omega arith, omega arith, swept-start _ _ _ _)
 
-add-label : tie.Need-add-label Inv-loop μ-loop
-add-label c = search needs
-
-mul-label : tie.Need-mul-label Inv-loop μ-loop
-mul-label c = search needs
-
 slice-read-label : tie.Need-slice-read-label Inv-loop μ-loop
 slice-read-label c = let h = c .before .before .loop .inv .2 .same in omega arith
 
-mul-label-2 : tie.Need-mul-label-2 Inv-loop μ-loop
-mul-label-2 c = search needs
-
 slice-write-label : tie.Need-slice-write-label Inv-loop μ-loop
 slice-write-label c = let h = c .before .before .loop .inv .2 .same in omega arith
-
-add-i : tie.Need-add-i Inv-loop μ-loop
-add-i c = search needs
-
-loop-less : tie.Need-loop-less Inv-loop μ-loop
-loop-less c = search needs
 
 loop-again : tie.Need-loop-again Inv-loop μ-loop
 loop-again c = (omega arith, omega arith, swept-more _ _ _ _ _ _ _ (c .before .before .loop .inv .2) (c .before .before .loop .inv .0) (let h = c .before .before .loop .inv .2 .same in omega arith) refl)
@@ -56,13 +41,13 @@ pull-labels-spec =
     Inv-loop
     μ-loop
     loop-holds
-    add-label
-    mul-label
+    (λ c. search needs)
+    (λ c. search needs)
     slice-read-label
-    mul-label-2
+    (λ c. search needs)
     slice-write-label
-    add-i
-    loop-less
+    (λ c. search needs)
+    (λ c. search needs)
     loop-again
     same-length
     returns)

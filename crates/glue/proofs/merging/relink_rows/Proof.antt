@@ -20,29 +20,11 @@ abbrev μ-loop : tie.MeasureT-loop
 loop-holds : tie.Need-loop-holds Inv-loop μ-loop
 loop-holds c = (omega arith, omega arith, swept-start _ _ _ _)
 
-add-relinked : tie.Need-add-relinked Inv-loop μ-loop
-add-relinked c = search needs
-
-mul-relinked : tie.Need-mul-relinked Inv-loop μ-loop
-mul-relinked c = search needs
-
 slice-read-relinked : tie.Need-slice-read-relinked Inv-loop μ-loop
 slice-read-relinked c = let h = c .before .before .loop .inv .2 .same in omega arith
 
-relinked-requires : tie.Need-relinked-requires Inv-loop μ-loop
-relinked-requires c κs = search needs
-
-mul-parent : tie.Need-mul-parent Inv-loop μ-loop
-mul-parent c = search needs
-
 slice-write-parent : tie.Need-slice-write-parent Inv-loop μ-loop
 slice-write-parent c = let h = c .before .before .before .loop .inv .2 .same in omega arith
-
-add-i : tie.Need-add-i Inv-loop μ-loop
-add-i c = search needs
-
-loop-less : tie.Need-loop-less Inv-loop μ-loop
-loop-less c = search needs
 
 loop-again : tie.Need-loop-again Inv-loop μ-loop
 loop-again c = (omega arith, omega arith, swept-more _ _ _ _ _ _ _ (c .before .before .before .loop .inv .2) (c .before .before .before .loop .inv .0) (let h = c .before .before .before .loop .inv .2 .same in omega arith) (c .relinked .ensures))
@@ -60,14 +42,14 @@ relink-rows-spec =
     Inv-loop
     μ-loop
     loop-holds
-    add-relinked
-    mul-relinked
+    (λ c. search needs)
+    (λ c. search needs)
     slice-read-relinked
-    relinked-requires
-    mul-parent
+    (λ c κs. search needs)
+    (λ c. search needs)
     slice-write-parent
-    add-i
-    loop-less
+    (λ c. search needs)
+    (λ c. search needs)
     loop-again
     same-length
     returns)

@@ -8,9 +8,6 @@ use Rattle.glue.proofs.merging.relinked.Tie as tie
 use Rattle.glue.proofs.merging.relinked.Reads as reads
 use Rattle.glue.proofs.merging.relinked.Lts as lts
 
-sub-result : tie.Need-sub-result
-sub-result c = search needs
-
 returns : tie.Need-returns
 returns c = moved-link (c .before .before .args .x) (c .before .before .args .y) (c .before .before .args .p) _ (λ e. omega arith) (omega arith) (omega arith) (hit-high _ _ _ (omega arith) (omega arith))
 
@@ -20,9 +17,6 @@ returns-2 c = moved-link (c .before .before .args .x) (c .before .before .args .
 returns-3 : tie.Need-returns-3
 returns-3 c = relinked-none _ (c .before .before .args .p) (omega arith)
 
-sub-result-2 : tie.Need-sub-result-2
-sub-result-2 c = search needs
-
 returns-4 : tie.Need-returns-4
 returns-4 c = moved-link (c .before .before .before .args .x) (c .before .before .before .args .y) (c .before .before .before .args .p) _ (λ e. omega arith) (omega arith) (omega arith) (miss-high _ _ _ (omega arith))
 
@@ -31,4 +25,4 @@ returns-5 c = moved-link (c .before .before .before .args .x) (c .before .before
 
 pub relinked-spec : {M : Type 1} → statement M
 relinked-spec =
-    tie.close (tie.spec sub-result returns returns-2 returns-3 sub-result-2 returns-4 returns-5)
+    tie.close (tie.spec (λ c. search needs) returns returns-2 returns-3 (λ c. search needs) returns-4 returns-5)

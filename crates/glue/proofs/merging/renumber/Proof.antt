@@ -8,12 +8,6 @@ use Rattle.glue.proofs.merging.renumber.Reads as reads
 use Rattle.glue.proofs.merging.renumber.Lts as lts
 use Rattle.glue.proofs.merging.stand_in.Reads as stand-in-reads
 
-stand-in-requires : tie.Need-stand-in-requires
-stand-in-requires c κs = search needs
-
-sub-result : tie.Need-sub-result
-sub-result c = search needs
-
 returns : tie.Need-returns
 returns c = moved-falls _ _ _ _ (c .before .stand-in .ensures) (omega arith)
 
@@ -21,4 +15,4 @@ returns-2 : tie.Need-returns-2
 returns-2 c = moved-stays _ _ _ _ (c .before .stand-in .ensures) (omega arith)
 
 pub renumber-spec : {M : Type 1} → statement M
-renumber-spec = tie.close (tie.spec stand-in-requires sub-result returns returns-2)
+renumber-spec = tie.close (tie.spec (λ c κs. search needs) (λ c. search needs) returns returns-2)

@@ -10,20 +10,8 @@ use Rattle.glue.proofs.pool.both_at_d.Lts as lts
 use Rattle.glue.proofs.pool.entry.Reads as entry-reads
 use Rattle.glue.proofs.pool.put.Reads as put-reads
 
-sub-k : tie.Need-sub-k
-sub-k c = search needs
-
-entry-requires : tie.Need-entry-requires
-entry-requires c κs = search needs
-
-put-requires : tie.Need-put-requires
-put-requires c κs = search needs
-
-same-length : tie.Need-same-length
-same-length c = search needs
-
 returns : tie.Need-returns
 returns c = λ P L F sound. second-stands (pool P L F _ _) _ sound (c .before .before .before .before .before .before .before .pre .0) _ _ refl (c .before .before .before .entry .ensures .0) _ (c .before .before .put .ensures)
 
 pub both-at-d-spec : {M : Type 1} → statement M
-both-at-d-spec = tie.close (tie.spec sub-k entry-requires put-requires same-length returns)
+both-at-d-spec = tie.close (tie.spec (λ c. search needs) (λ c κs. search needs) (λ c κs. search needs) (λ c. search needs) returns)

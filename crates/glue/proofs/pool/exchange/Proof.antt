@@ -9,27 +9,6 @@ use Rattle.glue.proofs.pool.exchange.Lts as lts
 use Rattle.glue.proofs.pool.entry.Reads as entry-reads
 use Rattle.glue.proofs.pool.put.Reads as put-reads
 
-sub-k : tie.Need-sub-k
-sub-k c = search needs
-
-entry-requires : tie.Need-entry-requires
-entry-requires c κs = search needs
-
-entry-requires-2 : tie.Need-entry-requires-2
-entry-requires-2 c κs = search needs
-
-put-requires : tie.Need-put-requires
-put-requires c κs = search needs
-
-put-requires-2 : tie.Need-put-requires-2
-put-requires-2 c κs = search needs
-
-same-length : tie.Need-same-length
-same-length c = search needs
-
-same-length-2 : tie.Need-same-length-2
-same-length-2 c = search needs
-
 returns : tie.Need-returns
 returns c = λ P L F sound. inverse-stands (pool P L F _ _) _ sound (c .before .before .before .before .before .before .before .before .before .before .before .before .before .before .pre .0) _ _ (c .before .before .before .before .before .before .before .before .before .before .entry .ensures .0) (c .before .before .before .before .before .before .before .before .entry2 .ensures .0) _ _ (c .before .before .before .before .before .before .put .ensures) (c .before .before .put2 .ensures)
 
@@ -37,11 +16,11 @@ pub exchange-spec : {M : Type 1} → statement M
 exchange-spec =
     tie.close
     (tie.spec
-    sub-k
-    entry-requires
-    entry-requires-2
-    put-requires
-    put-requires-2
-    same-length
-    same-length-2
+    (λ c. search needs)
+    (λ c κs. search needs)
+    (λ c κs. search needs)
+    (λ c κs. search needs)
+    (λ c κs. search needs)
+    (λ c. search needs)
+    (λ c. search needs)
     returns)

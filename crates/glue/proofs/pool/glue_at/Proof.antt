@@ -16,92 +16,20 @@ returns c = (empty-first (c .before .before .before .args .both) (c .before .bef
 returns-2 : tie.Need-returns-2
 returns-2 c = (empty-second (c .before .before .before .before .args .both) (c .before .before .before .before .args .parent .now) (c .before .before .before .before .args .label .now) (c .before .before .before .before .args .a) (c .before .before .before .before .args .m) (c .before .before .before .before .args .e) (c .before .before .before .before .args .s1) (c .before .before .before .before .args .d1) (c .before .before .before .before .args .s2) (c .before .before .before .before .args .d2) (c .if2 .taken), (refl, refl))
 
-mul-intersect : tie.Need-mul-intersect
-mul-intersect c = search needs
-
-sub-intersect : tie.Need-sub-intersect
-sub-intersect c = search needs
-
-part-intersect-start : tie.Need-part-intersect-start
-part-intersect-start c = search needs
-
-part-intersect-end : tie.Need-part-intersect-end
-part-intersect-end c = search needs
-
-mul-intersect-2 : tie.Need-mul-intersect-2
-mul-intersect-2 c = search needs
-
-sub-intersect-2 : tie.Need-sub-intersect-2
-sub-intersect-2 c = search needs
-
-part-intersect-start-2 : tie.Need-part-intersect-start-2
-part-intersect-start-2 c = search needs
-
-part-intersect-end-2 : tie.Need-part-intersect-end-2
-part-intersect-end-2 c = search needs
-
-sub-intersect-3 : tie.Need-sub-intersect-3
-sub-intersect-3 c = search needs
-
-sub-intersect-4 : tie.Need-sub-intersect-4
-sub-intersect-4 c = search needs
-
 intersect-requires : tie.Need-intersect-requires
 intersect-requires c κs = let q = c .before .before .before .before .before .before .before .pre in (
   lent-room _ _ _ _ _ (c .before .before .before .before .before .before .before .args .s1) (c .before .before .before .before .before .before .before .args .d1) (c .before .before .before .before .before .before .before .args .s2) (c .before .before .before .before .before .before .before .args .d2) (q .0 .0) (q .0 .1) (q .0 .2) (c .before .before .before .before .if1 .left) (c .before .before .before .if2 .left),
   lent-trees _ _ _ _ _ _ _ _ _ (q .0 .0) (q .0 .1) (q .0 .2) (c .before .before .before .before .if1 .left) (c .before .before .before .if2 .left) (q .1),
 )
 
-same-length : tie.Need-same-length
-same-length c = search needs
-
-same-length-2 : tie.Need-same-length-2
-same-length-2 c = search needs
-
 returns-3 : tie.Need-returns-3
 returns-3 c = let q = c .before .before .before .before .before .before .before .before .before .before .before .before .pre in rw (c .before .before .before .before .before .before .before .if3 .taken) (lent-end _ _ _ _ _ _ _ _ _ (q .0 .0) (q .0 .1) (q .0 .2) (c .before .before .before .before .before .before .before .before .before .if1 .left) (c .before .before .before .before .before .before .before .before .if2 .left) true (c .before .before .before .before .intersect .result) _ _ (c .before .before .before .before .intersect .kept .0) (c .before .before .before .before .intersect .kept .1 .0) (c .before .before .before .before .intersect .ensures))
-
-mul-compose : tie.Need-mul-compose
-mul-compose c = search needs
-
-sub-compose : tie.Need-sub-compose
-sub-compose c = search needs
-
-part-compose-start : tie.Need-part-compose-start
-part-compose-start c = search needs
-
-part-compose-end : tie.Need-part-compose-end
-part-compose-end c = search needs
-
-mul-compose-2 : tie.Need-mul-compose-2
-mul-compose-2 c = search needs
-
-sub-compose-2 : tie.Need-sub-compose-2
-sub-compose-2 c = search needs
-
-part-compose-start-2 : tie.Need-part-compose-start-2
-part-compose-start-2 c = search needs
-
-part-compose-end-2 : tie.Need-part-compose-end-2
-part-compose-end-2 c = search needs
-
-sub-compose-3 : tie.Need-sub-compose-3
-sub-compose-3 c = search needs
-
-sub-compose-4 : tie.Need-sub-compose-4
-sub-compose-4 c = search needs
 
 compose-requires : tie.Need-compose-requires
 compose-requires c κs = let q = c .before .before .before .before .before .before .before .pre in (
   lent-room _ _ _ _ _ (c .before .before .before .before .before .before .before .args .s1) (c .before .before .before .before .before .before .before .args .d1) (c .before .before .before .before .before .before .before .args .s2) (c .before .before .before .before .before .before .before .args .d2) (q .0 .0) (q .0 .1) (q .0 .2) (c .before .before .before .before .if1 .left) (c .before .before .before .if2 .left),
   lent-trees _ _ _ _ _ _ _ _ _ (q .0 .0) (q .0 .1) (q .0 .2) (c .before .before .before .before .if1 .left) (c .before .before .before .if2 .left) (q .1),
 )
-
-same-length-3 : tie.Need-same-length-3
-same-length-3 c = search needs
-
-same-length-4 : tie.Need-same-length-4
-same-length-4 c = search needs
 
 returns-4 : tie.Need-returns-4
 returns-4 c = let q = c .before .before .before .before .before .before .before .before .before .before .before .before .pre in rw (c .before .before .before .before .before .before .before .if3 .left) (lent-end _ _ _ _ _ _ _ _ _ (q .0 .0) (q .0 .1) (q .0 .2) (c .before .before .before .before .before .before .before .before .before .if1 .left) (c .before .before .before .before .before .before .before .before .if2 .left) false (c .before .before .before .before .compose .result) _ _ (c .before .before .before .before .compose .kept .0) (c .before .before .before .before .compose .kept .1 .0) (c .before .before .before .before .compose .ensures))
@@ -112,31 +40,31 @@ glue-at-spec =
     (tie.spec
     returns
     returns-2
-    mul-intersect
-    sub-intersect
-    part-intersect-start
-    part-intersect-end
-    mul-intersect-2
-    sub-intersect-2
-    part-intersect-start-2
-    part-intersect-end-2
-    sub-intersect-3
-    sub-intersect-4
+    (λ c. search needs)
+    (λ c. search needs)
+    (λ c. search needs)
+    (λ c. search needs)
+    (λ c. search needs)
+    (λ c. search needs)
+    (λ c. search needs)
+    (λ c. search needs)
+    (λ c. search needs)
+    (λ c. search needs)
     intersect-requires
-    same-length
-    same-length-2
+    (λ c. search needs)
+    (λ c. search needs)
     returns-3
-    mul-compose
-    sub-compose
-    part-compose-start
-    part-compose-end
-    mul-compose-2
-    sub-compose-2
-    part-compose-start-2
-    part-compose-end-2
-    sub-compose-3
-    sub-compose-4
+    (λ c. search needs)
+    (λ c. search needs)
+    (λ c. search needs)
+    (λ c. search needs)
+    (λ c. search needs)
+    (λ c. search needs)
+    (λ c. search needs)
+    (λ c. search needs)
+    (λ c. search needs)
+    (λ c. search needs)
     compose-requires
-    same-length-3
-    same-length-4
+    (λ c. search needs)
+    (λ c. search needs)
     returns-4)

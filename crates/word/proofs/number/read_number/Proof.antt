@@ -21,15 +21,6 @@ abbrev μ-loop : tie.MeasureT-loop
 loop-holds : tie.Need-loop-holds Inv-loop μ-loop
 loop-holds c = reading-start _ _
 
-shared-slice-read-wide : tie.Need-shared-slice-read-wide Inv-loop μ-loop
-shared-slice-read-wide c = search needs
-
-wide-requires : tie.Need-wide-requires Inv-loop μ-loop
-wide-requires c κs = search needs
-
-add-next : tie.Need-add-next Inv-loop μ-loop
-add-next c = search needs
-
 -- not the shortest writing
 returns : tie.Need-returns Inv-loop μ-loop
 returns c = reading-zero _ _ _ _ _ (c .before .before .before .before .before .before .loop .inv) _ (c .before .before .before .wide .ensures .0) (c .before .before .before .before .before .loop-test .taken) (c .before .if2 .taken) (ltb-true _ _ (c .if3 .taken))
@@ -54,15 +45,9 @@ mul-value-2 c = omega (arith, product (c .before .before .before .before .loop .
 add-value-2 : tie.Need-add-value-2 Inv-loop μ-loop
 add-value-2 c = omega (arith, product (c .before .before .before .before .loop .inv) {b = c .before .wide .result - 128} (omega arith))
 
-mul-weight : tie.Need-mul-weight Inv-loop μ-loop
-mul-weight c = search needs
-
 -- a further group would make it too large
 returns-4 : tie.Need-returns-4 Inv-loop μ-loop
 returns-4 c = reading-far _ _ _ _ _ (c .before .before .before .before .before .loop .inv) _ (c .before .before .wide .ensures .0) (c .before .before .before .before .loop-test .taken) (c .before .if1 .left) (c .if5 .taken)
-
-loop-less : tie.Need-loop-less Inv-loop μ-loop
-loop-less c = search needs
 
 loop-again : tie.Need-loop-again Inv-loop μ-loop
 loop-again c = reading-more _ _ _ _ _ (c .before .before .before .before .before .loop .inv) _ (c .before .before .wide .ensures .0) (c .before .before .before .before .loop-test .taken) (c .before .if1 .left) (c .before .before .wide .ensures .1) (c .if5 .left)
@@ -78,9 +63,9 @@ read-number-spec =
     Inv-loop
     μ-loop
     loop-holds
-    shared-slice-read-wide
-    wide-requires
-    add-next
+    (λ c. search needs)
+    (λ c κs. search needs)
+    (λ c. search needs)
     returns
     mul-value
     add-value
@@ -88,8 +73,8 @@ read-number-spec =
     returns-3
     mul-value-2
     add-value-2
-    mul-weight
+    (λ c. search needs)
     returns-4
-    loop-less
+    (λ c. search needs)
     loop-again
     returns-5)

@@ -10,24 +10,9 @@ use Rattle.word.proofs.whole.take_sign.Lts as lts
 use Rattle.word.proofs.whole.count.Reads as count-reads
 use Rattle.word.proofs.sign.kind_of.Reads as kind-of-reads
 
-kind-of-requires : tie.Need-kind-of-requires
-kind-of-requires c κs = search needs
-
-enum-told : tie.Need-enum-told
-enum-told c = search needs
-
 -- an operand: refusal 4
 returns : tie.Need-returns
 returns c st e = operand-refused _ st _ e (sym (c .before .before .before .kind-of .ensures) ∙ c .before .enum-told .given .1) (omega arith)
-
-add-count : tie.Need-add-count
-add-count c = search needs
-
-count-requires : tie.Need-count-requires
-count-requires c κs = search needs
-
-enum-told-2 : tie.Need-enum-told-2
-enum-told-2 c = search needs
 
 -- a step: refusal 4
 returns-2 : tie.Need-returns-2
@@ -37,34 +22,13 @@ returns-2 c st e = step-refused _ st _ e (sym (c .before .before .before .kind-o
 returns-3 : tie.Need-returns-3
 returns-3 c st e = step-256th _ st _ e (sym (c .before .before .before .before .kind-of .ensures) ∙ c .before .before .enum-told2 .given .1) (omega arith) (omega arith)
 
-add-count-2 : tie.Need-add-count-2
-add-count-2 c = search needs
-
-add-count-3 : tie.Need-add-count-3
-add-count-3 c = search needs
-
-count-requires-2 : tie.Need-count-requires-2
-count-requires-2 c κs = search needs
-
-enum-told-3 : tie.Need-enum-told-3
-enum-told-3 c = search needs
-
 -- an operator on one operand: refusal 3
 returns-4 : tie.Need-returns-4
 returns-4 c st e = unary-refused _ st _ e (sym (c .before .before .before .kind-of .ensures) ∙ c .before .enum-told3 .given .1) (omega arith)
 
-enum-told-4 : tie.Need-enum-told-4
-enum-told-4 c = search needs
-
 -- an operator on two operands: refusal 3
 returns-5 : tie.Need-returns-5
 returns-5 c st e = binary-refused _ st _ e (sym (c .before .before .before .kind-of .ensures) ∙ c .before .enum-told4 .given .1) (omega arith)
-
-sub-count : tie.Need-sub-count
-sub-count c = search needs
-
-count-requires-3 : tie.Need-count-requires-3
-count-requires-3 c κs = search needs
 
 -- an operand that is taken
 returns-6 : tie.Need-returns-6
@@ -86,23 +50,23 @@ pub take-sign-spec : {M : Type 1} → statement M
 take-sign-spec =
     tie.close
     (tie.spec
-    kind-of-requires
-    enum-told
+    (λ c κs. search needs)
+    (λ c. search needs)
     returns
-    add-count
-    count-requires
-    enum-told-2
+    (λ c. search needs)
+    (λ c κs. search needs)
+    (λ c. search needs)
     returns-2
     returns-3
-    add-count-2
-    add-count-3
-    count-requires-2
-    enum-told-3
+    (λ c. search needs)
+    (λ c. search needs)
+    (λ c κs. search needs)
+    (λ c. search needs)
     returns-4
-    enum-told-4
+    (λ c. search needs)
     returns-5
-    sub-count
-    count-requires-3
+    (λ c. search needs)
+    (λ c κs. search needs)
     returns-6
     returns-7
     returns-8
