@@ -8,6 +8,14 @@ ghost use lib.Dec.{eqb};
 ghost use Rattle.meaning.specs.Matching.{bitAt};
 ghost use Rattle.bits.specs.Bits.{bitOf, rowClear, BitKept, BitSet, Met, Cleared};
 
+// Whether bit k of a byte is set.
+pub fn bit_of(b: u8, k: usize) -> bool
+    requires { ⌜ k < 8 ⌝ }
+    ensures { λ r. ⌜ r ≡ bitOf b k ⌝ }
+{
+    (b >> k) & 1 == 1
+}
+
 // The byte with bit k cleared unless `on` says so. Eight of these make a few vector instructions; bits set one by one do not.
 pub fn keep_bit(b: u8, k: usize, on: bool) -> u8
     requires { ⌜ k < 8 ⌝ }

@@ -12,8 +12,9 @@ use Rattle.meaning.specs.Gluing.{meet, moved, orElse, merged, Glued, after, glu
 use Rattle.rows.specs.Rows.{labOf, noRow}
 use Rattle.theory.proofs.Merge.{Merge}
 use Rattle.theory.proofs.Apart.{Safe, safe-next}
-use Rattle.glue.specs.Rows.{parentOf, table, ifRows, Marked, marked}
-use Rattle.glue.proofs.Codes.{parent-none, parent-some, at-table, row-table, live-below, rows-some}
+use Rattle.rows.specs.Table.{parentOf, table, ifRows}
+use Rattle.glue.specs.Rows.{Marked, marked}
+use Rattle.rows.proofs.Table.{parent-none, parent-some, at-table, row-table, live-below, rows-some}
 
 -- ------------------------------------------------------------------ one step of the definition
 glue-same : (n : ℕ) (T : Table) (x y : ℕ) → 0 < n → x ≡ y → glue n T x y ≡ some (record { rows = T; to = λ i. i })

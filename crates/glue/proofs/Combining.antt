@@ -12,9 +12,10 @@ use Rattle.meaning.specs.TreeQuery.{Query, nodes, TreeQuery}
 use Rattle.meaning.specs.Gluing.{two}
 use Rattle.theory.proofs.Plain.{TreeO, Short, composed-tree, intersected-tree, composed-short, intersected-short}
 use Rattle.glue.specs.declared.gluing.Built.{Built}
-use Rattle.glue.specs.Rows.{ifRows, Room, query, queryFrom, part, builtOf}
+use Rattle.rows.specs.Table.{ifRows, query}
+use Rattle.glue.specs.Rows.{Room, queryFrom, part, builtOf}
 use Rattle.glue.specs.Pool.{Pool, pool, operand, stack, Sound, Stands, Trees, Latest, chosen, combined}
-use Rattle.glue.proofs.Codes.{length-table, live-below, rows-none, rows-some}
+use Rattle.rows.proofs.Table.{length-table, live-below, rows-none, rows-some}
 use Rattle.glue.proofs.Parts.{part-none, part-some}
 use Rattle.glue.proofs.Operands.{Step, step-stands, stack-top, rises, set-below}
 

@@ -9,8 +9,8 @@ use lib.ListN.{getD}
 use Rattle.meaning.specs.TreeQuery.{Lab, node, Table, at}
 use Rattle.meaning.specs.Gluing.{depth, depthRow}
 use Rattle.rows.specs.Rows.{labOf, noRow}
-use Rattle.glue.specs.Rows.{parentOf, rowAt, table}
-use Rattle.glue.proofs.Codes.{parent-none, parent-some, at-table}
+use Rattle.rows.specs.Table.{parentOf, rowAt, table}
+use Rattle.rows.proofs.Table.{parent-none, parent-some, at-table}
 
 depth-row : (m : ℕ) (T : Table) (i : ℕ) (u : Option ℕ) (l : Lab) → 0 < m → at T i ≡ some (node u l)
     → depth m T i ≡ depthRow (depth (m - 1) T) (some (node u l))

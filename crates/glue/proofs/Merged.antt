@@ -14,8 +14,10 @@ use Rattle.meaning.specs.Gluing.{without, move, moved, relink, merged}
 use Rattle.rows.specs.Rows.{labOf, noRow}
 use Rattle.theory.proofs.Look.{pick-yes, pick-no, look-set-same, look-set-other, look-map}
 use Rattle.theory.proofs.Merge.{back, back-low, back-high, move-hit, moved-low, moved-high, at-without, length-without, length-merged}
-use Rattle.glue.specs.Rows.{parentOf, rowAt, table, Relinked, Swept}
-use Rattle.glue.proofs.Codes.{relinked-some, length-table, at-table, table-is}
+use Rattle.rows.specs.Table.{parentOf, rowAt, table}
+use Rattle.glue.specs.Rows.{Relinked, Swept}
+use Rattle.rows.proofs.Table.{length-table, at-table, table-is}
+use Rattle.glue.proofs.Codes.{relinked-some}
 use Rattle.glue.proofs.Sweeping.{here-done}
 
 -- ------------------------------------------------------------------ numbers before and after

@@ -8,9 +8,10 @@ use native.Mathlib.Omega.{arith}
 use lib.ListN.{length, getD, set, take, drop}
 use lib.Seq.{getD-take, getD-drop, getD-set-other}
 use Rattle.meaning.specs.TreeQuery.{Query}
-use Rattle.glue.specs.Rows.{table, ifRows, part}
+use Rattle.rows.specs.Table.{table, ifRows}
+use Rattle.glue.specs.Rows.{part}
 use Rattle.glue.specs.Pool.{Pool, operand, stack, Sound, Stands}
-use Rattle.glue.proofs.Codes.{length-table, at-table, table-is}
+use Rattle.rows.proofs.Table.{length-table, at-table, table-is}
 
 -- the latest operand
 pub stack-top : (p : Pool) (n : ℕ) → 1 ≤ n → stack p n ≡ operand p (n - 1) ∷ stack p (n - 1)

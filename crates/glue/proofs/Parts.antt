@@ -13,9 +13,10 @@ use Rattle.meaning.specs.TreeQuery.{Query, TreeQuery}
 use Rattle.meaning.specs.Gluing.{two}
 use Rattle.theory.proofs.Plain.{TreeO}
 use Rattle.glue.specs.declared.gluing.Built.{Built}
-use Rattle.glue.specs.Rows.{Room, query, queryFrom, part, builtOf}
+use Rattle.rows.specs.Table.{query}
+use Rattle.glue.specs.Rows.{Room, queryFrom, part, builtOf}
 use Rattle.glue.specs.Pool.{chosen}
-use Rattle.glue.proofs.Codes.{rows-none, rows-some}
+use Rattle.rows.proofs.Table.{rows-none, rows-some}
 
 -- ------------------------------------------------------------------ no rows, or a query
 pub part-none : (P L : List ℕ) (a b s d : ℕ) → a ≡ b → part P L a b s d ≡ none

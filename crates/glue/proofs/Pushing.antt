@@ -10,9 +10,10 @@ use Rattle.meaning.specs.Basics.{mapped}
 use Rattle.meaning.specs.TreeQuery.{any, node, Table, at, Query}
 use Rattle.meaning.specs.Gluing.{oneNode, twoNodes, bothAtS, bothAtD, exchanged}
 use Rattle.rows.specs.Rows.{labOf, noRow}
-use Rattle.glue.specs.Rows.{rowAt, table, ifRows, part}
+use Rattle.rows.specs.Table.{rowAt, table, ifRows}
+use Rattle.glue.specs.Rows.{part}
 use Rattle.glue.specs.Pool.{Pool, pool, operand, stack, Sound, Stands, onTop}
-use Rattle.glue.proofs.Codes.{parent-none, parent-some, table-is}
+use Rattle.rows.proofs.Table.{parent-none, parent-some, table-is}
 use Rattle.glue.proofs.Parts.{part-none, part-some}
 use Rattle.glue.proofs.Operands.{Step, step-stands, stack-top, set-below}
 

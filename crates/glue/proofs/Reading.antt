@@ -25,9 +25,10 @@ use Rattle.word.proofs.Run.{runFrom, nothingPending}
 use Rattle.word.proofs.Accepted.{accepted-start, accepted-end, accepted-number, accepted-sign}
 use Rattle.theory.proofs.Look.{never}
 use Rattle.glue.specs.declared.gluing.Built.{Built}
-use Rattle.glue.specs.Rows.{parentOf, table, query, part, builtOf}
+use Rattle.rows.specs.Table.{parentOf, table, query}
+use Rattle.glue.specs.Rows.{part, builtOf}
 use Rattle.glue.specs.Pool.{Pool, pool, operand, stack, Sound, Holds, HoldsNone, HoldsOnly, Passes, Applies, PlainRows}
-use Rattle.glue.proofs.Codes.{parent-none, parent-some, length-table, at-table, row-table, live-below, rows-some}
+use Rattle.rows.proofs.Table.{parent-none, parent-some, length-table, at-table, row-table, live-below, rows-some}
 use Rattle.glue.proofs.Taking.{holds-length}
 
 -- at place `at` the n operands of the pool are those that are pending

@@ -12,8 +12,9 @@ use Rattle.meaning.specs.TreeQuery.{node, Table, at, Tree}
 use Rattle.meaning.specs.Gluing.{relink, shift, join}
 use Rattle.rows.specs.Rows.{labOf, noRow}
 use Rattle.theory.proofs.Join.{length-join, at-left, at-right, Side, left, right, sideOf}
-use Rattle.glue.specs.Rows.{parentOf, rowAt, table, Relinked, Swept}
-use Rattle.glue.proofs.Codes.{parent-some, length-table, at-table, table-is, live-below, row-table}
+use Rattle.rows.specs.Table.{parentOf, rowAt, table}
+use Rattle.glue.specs.Rows.{Relinked, Swept}
+use Rattle.rows.proofs.Table.{parent-some, length-table, at-table, table-is, live-below, row-table}
 use Rattle.glue.proofs.Sweeping.{here-done}
 
 -- ------------------------------------------------------------------ the links of a tree

@@ -17,9 +17,10 @@ use Rattle.meaning.specs.Word.{refused, answered, operand as operandSign, unary
 use Rattle.rows.specs.Rows.{labOf}
 use Rattle.theory.proofs.Look.{never}
 use Rattle.theory.proofs.Plain.{TreeO, AtMost, plain-means, means-tree, few-nodes}
-use Rattle.glue.specs.Rows.{ifRows, queryFrom, part}
+use Rattle.rows.specs.Table.{ifRows}
+use Rattle.glue.specs.Rows.{queryFrom, part}
 use Rattle.glue.specs.Pool.{Pool, operand, stack, Sound, Stands, Trees, chosen, combined, onTop, allSteps, Holds, Passes}
-use Rattle.glue.proofs.Codes.{length-table}
+use Rattle.rows.proofs.Table.{length-table}
 
 -- ------------------------------------------------------------------ the word's side
 -- an operand sign: there is room for it, and steps are counted

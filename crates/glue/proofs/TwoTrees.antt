@@ -13,8 +13,9 @@ use Rattle.theory.proofs.Look.{never, pick-yes, pick-no}
 use Rattle.theory.proofs.Join.{length-join}
 use Rattle.theory.proofs.Apart.{Safe, AcrossO, safe-join, across-glued, safe-within}
 use Rattle.glue.specs.declared.gluing.Joined.{Joined}
-use Rattle.glue.specs.Rows.{table, ifRows, Marked, marked, joinedOf, query, queryFrom, builtOf}
-use Rattle.glue.proofs.Codes.{length-table, live-below, below-live, rows-none, rows-some}
+use Rattle.rows.specs.Table.{table, ifRows, query}
+use Rattle.glue.specs.Rows.{Marked, marked, joinedOf, queryFrom, builtOf}
+use Rattle.rows.proofs.Table.{length-table, live-below, below-live, rows-none, rows-some}
 
 -- ------------------------------------------------------------------ two marks of three
 abbrev twoMarks : Option Marked → Option Query

@@ -16,8 +16,9 @@ use Rattle.rows.proofs.Rows.{lab-code}
 use Rattle.rows.proofs.Unique.{SameBelow}
 use Rattle.theory.proofs.Look.{never}
 use Rattle.glue.specs.declared.gluing.Built.{Built}
-use Rattle.glue.specs.Rows.{parentOf, rowAt, table, ifRows, query, builtOf}
-use Rattle.glue.proofs.Codes.{parent-none, parent-some, length-table, at-table}
+use Rattle.rows.specs.Table.{parentOf, rowAt, table, ifRows, query}
+use Rattle.glue.specs.Rows.{builtOf}
+use Rattle.rows.proofs.Table.{parent-none, parent-some, length-table, at-table}
 
 parent-same : (p q : ℕ) → parentOf p ≡ parentOf q → p ≡ q
 parent-same p q e = go (ℕ-discrete p noRow) (ℕ-discrete q noRow)

@@ -1,35 +1,19 @@
 -- The rows of a tree query as two lists of numbers: parents, with noRow at a top, and label codes.
 -- "No rows" stands for empty, in every answer of this crate.
 use mathlib.Core.Path.{_≡_}
-use mathlib.Core.Bool.{cond}
 use mathlib.Core.Option.{Option, none, some}
-use mathlib.Core.List.{List, [], _∷_}
-use Prim.Native.Nat.{ℕ, zero, suc, _+_, _-_, _≤_, _<_}
+use mathlib.Core.List.{List, []}
+use Prim.Native.Nat.{ℕ, _+_, _-_, _≤_, _<_}
 use lib.ListN.{length, getD, drop}
-use lib.Dec.{eqb}
 use Rattle.meaning.specs.Basics.{mapped}
-use Rattle.meaning.specs.TreeQuery.{Lab, Row, node, Table, Query}
+use Rattle.meaning.specs.TreeQuery.{Lab, Table, Query}
 use Rattle.meaning.specs.Gluing.{Glued}
-use Rattle.rows.specs.Rows.{labOf, noRow}
+use Rattle.rows.specs.Rows.{labOf}
+use Rattle.rows.specs.Table.{parentOf, table, query, ifRows, queryOf}
 use Rattle.glue.specs.declared.merging.Met.{Met}
 use Rattle.glue.specs.declared.merging.Met.the-variants.{Label, Clash}
 use Rattle.glue.specs.declared.gluing.Joined.{Joined}
 use Rattle.glue.specs.declared.gluing.Built.{Built}
-
--- the parent that a number stands for
-unfoldable pub parentOf : ℕ → Option ℕ
-parentOf p = cond (eqb p noRow) none (some p)
-
-abbrev pub rowAt : List ℕ → List ℕ → ℕ → Row
-rowAt P L i = node (parentOf (getD P i 0)) (labOf (getD L i 0))
-
-abbrev pub listed : ℕ → (ℕ → Row) → Table
-listed zero f = []
-listed (suc n) f = f 0 ∷ listed n (λ i. f (suc i))
-
--- the first n rows
-unfoldable pub table : ℕ → List ℕ → List ℕ → Table
-table n P L = listed n (rowAt P L)
 
 -- r is the link p, each row i of which is now f i
 abbrev pub Relinked : (ℕ → ℕ) → ℕ → ℕ → Type 0
@@ -53,11 +37,6 @@ abbrev pub metOf : Met → Option Lab
 metOf Clash = none
 metOf (Label m) = some (labOf m)
 
--- no rows: empty
-abbrev pub ifRows : {A : Type 0} → ℕ → A → Option A
-ifRows zero a = none
-ifRows (suc n) a = some a
-
 -- ------------------------------------------------------------------ a glued table with three of its nodes
 pub record Marked : Type 0 where
   pub rows : Table
@@ -73,10 +52,6 @@ abbrev pub joinedOf : Joined → List ℕ → List ℕ → Option Marked
 joinedOf r P L = ifRows (r .rows) (record { rows = table (r .rows) P L; s = r .s; d = r .d; d2 = r .d2 })
 
 -- ------------------------------------------------------------------ tree queries
--- the query whose rows are the first n
-abbrev pub query : ℕ → List ℕ → List ℕ → ℕ → ℕ → Query
-query n P L s d = record { rows = table n P L; s = s; d = d }
-
 -- the query whose rows are the n behind the first a
 abbrev pub queryFrom : ℕ → ℕ → List ℕ → List ℕ → ℕ → ℕ → Query
 queryFrom a n P L s d = query n (drop a P) (drop a L) s d
@@ -86,4 +61,4 @@ unfoldable pub part : List ℕ → List ℕ → ℕ → ℕ → ℕ → ℕ → 
 part P L a b s d = ifRows (b - a) (queryFrom a (b - a) P L s d)
 
 abbrev pub builtOf : Built → List ℕ → List ℕ → Option Query
-builtOf r P L = ifRows (r .rows) (query (r .rows) P L (r .s) (r .d))
+builtOf r P L = queryOf P L (r .rows) (r .s) (r .d)

@@ -13,7 +13,8 @@ ghost use lib.ListN.{getD, drop};
 ghost use Rattle.meaning.specs.TreeQuery.{Tree, TreeQuery};
 ghost use Rattle.meaning.specs.Gluing.{glue, join, depth, within, placed, composed, intersected};
 ghost use Rattle.theory.proofs.Apart.{Safe};
-ghost use Rattle.glue.specs.Rows.{parentOf, table, Relinked, Room, marked, joinedOf, query, queryFrom, builtOf};
+ghost use Rattle.rows.specs.Table.{parentOf, table, query};
+ghost use Rattle.glue.specs.Rows.{Relinked, Room, marked, joinedOf, queryFrom, builtOf};
 
 // The rows left after a gluing and where three nodes went; no rows where two labels clashed.
 pub struct Joined {

@@ -5,7 +5,8 @@ ghost use Prim.Native.Nat.{ℕ, _+_, _-_, _≤_, _<_};
 ghost use lib.ListN.{length, getD};
 ghost use Rattle.meaning.specs.Gluing.{meet, move, moved, merged, orElse};
 ghost use Rattle.rows.specs.Rows.{labOf};
-ghost use Rattle.glue.specs.Rows.{parentOf, table, metOf, Relinked, Swept};
+ghost use Rattle.rows.specs.Table.{parentOf, table};
+ghost use Rattle.glue.specs.Rows.{metOf, Relinked, Swept};
 
 // The parent of a top.
 pub const NO_ROW: u16 = 65535;

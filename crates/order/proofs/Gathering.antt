@@ -13,7 +13,7 @@ use borrow.Author.Tests.{eq-eqb, ne-eqb, lt-ltb, le-ltb, ltb-true}
 use Rattle.meaning.specs.Tree.{size, plant}
 use Rattle.rows.specs.Rows.{noRow}
 use Rattle.order.specs.Links.{forestAt, Linked, Finite}
-use Rattle.order.specs.Table.{childrenOf, grown}
+use Rattle.rows.specs.Table.{childrenOf, grown}
 use Rattle.order.specs.Gathering.{Known, slotOf, Run, Cleared, Slots, Counts, Gathered}
 use Rattle.order.proofs.Links.{read-is, finite-of}
 use Rattle.order.proofs.Growing.{Children, all-children, children-few, Levels, level-le, size-grown}

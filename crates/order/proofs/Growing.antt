@@ -12,7 +12,7 @@ use borrow.Author.Tests.{eqb-true, eqb-false, eq-eqb, ne-eqb}
 use Rattle.meaning.specs.Tree.{Forest, bare, tree, size, plant}
 use Rattle.rows.specs.Rows.{noRow}
 use Rattle.order.specs.Links.{In, Apart}
-use Rattle.order.specs.Table.{childrenOf, grown}
+use Rattle.rows.specs.Table.{childrenOf, grown}
 
 -- ------------------------------------------------------------------ children
 -- ascending rows from b on, each before row e and with the parent p

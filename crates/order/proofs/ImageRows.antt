@@ -8,7 +8,7 @@ use native.Mathlib.Decide.{ℕ-discrete}
 use lib.ListN.{length, getD}
 use Rattle.meaning.specs.Tree.{Forest, Tag, size}
 use Rattle.rows.specs.Rows.{tagAt, mapT, treeRows, noRow, Rows}
-use Rattle.order.specs.Table.{tableShape, TreeTable, ParentsFirst}
+use Rattle.rows.specs.Table.{tableShape, TreeTable, ParentsFirst}
 use Rattle.order.specs.Gathering.{Known, Cleared, Slots, Counts, Gathered}
 use Rattle.order.specs.Links.{forestAt, Finite}
 use Rattle.order.specs.Sorting.{Sortable}

@@ -1,21 +1,24 @@
 -- The tree of a table of parents is the tree of the tree query whose rows the table has, and a tree query's table fulfils what `TreeTable` asks.
-use mathlib.Core.Path.{_≡_, refl, sym, ap, subst, _∙_}
-use mathlib.Core.Option.{Option, none, some}
+use mathlib.Core.Path.{_≡_, refl, sym, ap, _∙_}
+use mathlib.Core.Option.{none, some}
 use mathlib.Core.List.{List, [], _∷_}
 use mathlib.Core.Bool.{Bool, true, false, cond}
-use Prim.Native.Nat.{ℕ, zero, suc, _+_, _%_, _<_, _≤_}
+use Prim.Native.Nat.{ℕ, zero, suc, _+_, _<_, _≤_}
 use native.Mathlib.Omega.{arith}
-use native.Mathlib.Decide.{ℕ-discrete, decLt}
+use native.Mathlib.Decide.{ℕ-discrete}
 use lib.ListN.{length, getD}
-use lib.Dec.{eqb, ltb}
+use lib.Dec.{eqb}
 use borrow.Author.Tests.{eqb-true, eq-eqb, ne-eqb}
 use Rattle.meaning.specs.Basics.{is, look}
+use Rattle.meaning.specs.Limits.{mostNodes}
 use Rattle.meaning.specs.Number.{largestLabel}
-use Rattle.meaning.specs.TreeQuery.{Row, node, Query, Live, Tree}
+use Rattle.meaning.specs.TreeQuery.{Row, Query, Tree}
 use Rattle.meaning.specs.Tree.{tree, sameLink, choose, kidsFrom, labRow, tagOf, plant, grow, treeOf}
 use Rattle.meaning.specs.Image.{markCode}
+use Rattle.bits.specs.Bits.{bitOf}
 use Rattle.rows.specs.Rows.{labOf, tagAt, mapT, noRow}
-use Rattle.order.specs.Table.{childrenOf, grown, tableShape, tableTree, parentOf, tableRows, TreeTable}
+use Rattle.rows.specs.Table.{parentOf, rowAt, listed, table, childrenOf, grown, tableShape, tableTree, TreeTable}
+use Rattle.rows.proofs.Table.{parent-none, parent-some, length-table, at-table, live-below, row-table}
 use Rattle.order.proofs.Growing.{Children, all-children}
 
 -- ------------------------------------------------------------------ one row
@@ -27,6 +30,7 @@ is-eqb i q = go (ℕ-discrete i q)
     go (no d) = sym (ne-eqb q i (λ e. d (sym e)))
 
 link-row : (i q : ℕ) → (noRow ≡ i → ⊥) → sameLink (some i) (parentOf q) ≡ eqb q i
+unfolding parentOf
 link-row i q h = go (eqb q noRow) refl
   where
     go : (t : Bool) → eqb q noRow ≡ t → sameLink (some i) (cond t none (some q)) ≡ eqb q i
@@ -34,6 +38,7 @@ link-row i q h = go (eqb q noRow) refl
     go false e = is-eqb i q
 
 link-top : (q : ℕ) → sameLink none (parentOf q) ≡ eqb q noRow
+unfolding parentOf
 link-top q = go (eqb q noRow)
   where
     go : (t : Bool) → sameLink none (cond t none (some q)) ≡ t
@@ -44,7 +49,8 @@ chosen : (t : Bool) (j : ℕ) (js : List ℕ) → cond t (j ∷ js) js ≡ choos
 chosen true j js = refl
 chosen false j js = refl
 
-marks-back : (s d : Bool) → (eqb (markCode s d % 2) 1 ≡ s) × (ltb 1 (markCode s d) ≡ d)
+marks-back : (s d : Bool) → (bitOf (markCode s d) 0 ≡ s) × (bitOf (markCode s d) 1 ≡ d)
+unfolding bitOf
 marks-back false false = (refl, refl)
 marks-back true false = (refl, refl)
 marks-back false true = (refl, refl)
@@ -52,47 +58,50 @@ marks-back true true = (refl, refl)
 
 -- ------------------------------------------------------------------ the rows of the query
 module _ (parent code : List ℕ) where
-  kids-row : (i k j : ℕ) → (noRow ≡ i → ⊥) → childrenOf i parent k j ≡ kidsFrom (some i) (tableRows parent code k j) j
-  unfolding childrenOf tableRows
-  kids-row i zero j h = refl
-  kids-row i (suc k) j h = rw (link-row i (getD parent j 0) h, kids-row i k (suc j) h) (chosen (eqb (getD parent j 0) i) j (kidsFrom (some i) (tableRows parent code k (suc j)) (suc j)))
+  -- a row of a list of rows that is the table from row j on
+  row-here : (f : ℕ → Row) (j : ℕ) → ((x : ℕ) → f x ≡ rowAt parent code (j + x)) → f 0 ≡ rowAt parent code j
+  row-here f j h = let z : j + 0 ≡ j = omega arith in h 0 ∙ ap (rowAt parent code) z
 
-  kids-top : (k j : ℕ) → childrenOf noRow parent k j ≡ kidsFrom none (tableRows parent code k j) j
-  unfolding childrenOf tableRows
-  kids-top zero j = refl
-  kids-top (suc k) j = rw (link-top (getD parent j 0), kids-top k (suc j)) (chosen (eqb (getD parent j 0) noRow) j (kidsFrom none (tableRows parent code k (suc j)) (suc j)))
+  rows-later : (f : ℕ → Row) (j : ℕ) → ((x : ℕ) → f x ≡ rowAt parent code (j + x)) → (x : ℕ) → f (suc x) ≡ rowAt parent code (suc j + x)
+  rows-later f j h x = let z : j + suc x ≡ suc j + x = omega arith in h (suc x) ∙ ap (rowAt parent code) z
 
-  length-rows : (k j : ℕ) → length (tableRows parent code k j) ≡ k
-  unfolding tableRows
-  length-rows zero j = refl
-  length-rows (suc k) j = ap suc (length-rows k (suc j))
+  kids-row : (i k j : ℕ) (f : ℕ → Row) → ((x : ℕ) → f x ≡ rowAt parent code (j + x)) → (noRow ≡ i → ⊥)
+      → childrenOf i parent k j ≡ kidsFrom (some i) (listed k f) j
+  unfolding childrenOf
+  kids-row i zero j f h ne = refl
+  kids-row i (suc k) j f h ne =
+      rw (row-here f j h, link-row i (getD parent j 0) ne, kids-row i k (suc j) (λ x. f (suc x)) (rows-later f j h) ne)
+      (chosen (eqb (getD parent j 0) i) j (kidsFrom (some i) (listed k (λ x. f (suc x))) (suc j)))
 
-  look-rows : (k j i : ℕ) → i < k → look (tableRows parent code k j) i ≡ some (node (parentOf (getD parent (j + i) 0)) (labOf (getD code (j + i) 0)))
-  unfolding tableRows
-  look-rows zero j i l = absurd (omega arith)
-  look-rows (suc k) j zero l = let z : j + 0 ≡ j = omega arith in rw z
-  look-rows (suc k) j (suc i) l = let z : j + suc i ≡ suc j + i = omega arith in rw z (look-rows k (suc j) i (omega arith))
+  kids-top : (k j : ℕ) (f : ℕ → Row) → ((x : ℕ) → f x ≡ rowAt parent code (j + x)) → childrenOf noRow parent k j ≡ kidsFrom none (listed k f) j
+  unfolding childrenOf
+  kids-top zero j f h = refl
+  kids-top (suc k) j f h =
+      rw (row-here f j h, link-top (getD parent j 0), kids-top k (suc j) (λ x. f (suc x)) (rows-later f j h))
+      (chosen (eqb (getD parent j 0) noRow) j (kidsFrom none (listed k (λ x. f (suc x))) (suc j)))
 
-  beyond-rows : (k j i : ℕ) → k ≤ i → look (tableRows parent code k j) i ≡ none
-  unfolding tableRows
-  beyond-rows zero j i l = refl
-  beyond-rows (suc k) j zero l = absurd (omega arith)
-  beyond-rows (suc k) j (suc i) l = beyond-rows k (suc j) i (omega arith)
+  first-rows : (x : ℕ) → rowAt parent code x ≡ rowAt parent code (0 + x)
+  first-rows x = let z : x ≡ 0 + x = omega arith in ap (rowAt parent code) z
 
-  at-row : (n i : ℕ) → i < n → look (tableRows parent code n 0) i ≡ some (node (parentOf (getD parent i 0)) (labOf (getD code i 0)))
-  at-row n i l = let z : 0 + i ≡ i = omega arith in rw z at (look-rows n 0 i l)
+  kids-of : (i n : ℕ) → (noRow ≡ i → ⊥) → childrenOf i parent n 0 ≡ kidsFrom (some i) (table n parent code) 0
+  unfolding table
+  kids-of i n ne = kids-row i n 0 (rowAt parent code) first-rows ne
+
+  tops-of : (n : ℕ) → childrenOf noRow parent n 0 ≡ kidsFrom none (table n parent code) 0
+  unfolding table
+  tops-of n = kids-top n 0 (rowAt parent code) first-rows
 
   -- ---------------------------------------------------------------- the tree
   module _ (mark : List ℕ) (n s d : ℕ) (few : n ≤ noRow) (marks : (i : ℕ) → i < n → getD mark i 0 ≡ markCode (is (ℕ-discrete i s)) (is (ℕ-discrete i d))) where
     abbrev Q : Query
-    Q = record { rows = tableRows parent code n 0; s = s; d = d }
+    Q = record { rows = table n parent code; s = s; d = d }
 
     tag-is : (i : ℕ) → i < n → tagAt code mark i ≡ tagOf Q i
     tag-is i l =
         let m = marks-back (is (ℕ-discrete i s)) (is (ℕ-discrete i d)) in
-        let a : labOf (getD code i 0) ≡ labRow (look (tableRows parent code n 0) i) = sym (ap labRow (at-row n i l)) in
-        let b : eqb (getD mark i 0 % 2) 1 ≡ is (ℕ-discrete i s) = rw (marks i l) (m .0) in
-        let c : ltb 1 (getD mark i 0) ≡ is (ℕ-discrete i d) = rw (marks i l) (m .1) in
+        let a : labOf (getD code i 0) ≡ labRow (look (table n parent code) i) = sym (ap labRow (at-table n parent code i l)) in
+        let b : bitOf (getD mark i 0) 0 ≡ is (ℕ-discrete i s) = rw (marks i l) (m .0) in
+        let c : bitOf (getD mark i 0) 1 ≡ is (ℕ-discrete i d) = rw (marks i l) (m .1) in
         λ v. record { lab = a v; src = b v; dst = c v }
 
     map-plant : (m p b : ℕ) (js : List ℕ) → ((j : ℕ) → j < n → mapT (tagAt code mark) (grown m parent n j) ≡ grow m Q j) → Children parent p n b js
@@ -106,23 +115,23 @@ module _ (parent code : List ℕ) where
     unfolding grown
     map-grown zero i l = unfold mapT in refl
     map-grown (suc m) i l =
-        map-plant m i 0 (childrenOf i parent n 0) (map-grown m) (all-children parent n i) ∙ ap (plant (tagOf Q) (grow m Q)) (kids-row i n 0 (λ e. omega arith))
+        map-plant m i 0 (childrenOf i parent n 0) (map-grown m) (all-children parent n i) ∙ ap (plant (tagOf Q) (grow m Q)) (kids-of i n (λ e. omega arith))
 
     tree-is : tableTree parent code mark n ≡ treeOf Q
     unfolding tableTree tableShape grown
     tree-is =
         map-plant n noRow 0 (childrenOf noRow parent n 0) (map-grown n) (all-children parent n noRow)
-        ∙ ap (plant (tagOf Q) (grow n Q)) (kids-top n 0)
-        ∙ ap (λ (m : ℕ). plant (tagOf Q) (grow m Q) (kidsFrom none (tableRows parent code n 0) 0)) (sym (length-rows n 0))
+        ∙ ap (plant (tagOf Q) (grow n Q)) (tops-of n)
+        ∙ ap (λ (m : ℕ). plant (tagOf Q) (grow m Q) (kidsFrom none (table n parent code) 0)) (sym (length-table n parent code))
 
 -- mark 1 at s and 2 at d: the table's tree is the tree of the query
-pub table-tree : (Q : Query) (parent code mark : List ℕ) (n : ℕ) → n ≤ noRow → Q .rows ≡ tableRows parent code n 0
+pub table-tree : (Q : Query) (parent code mark : List ℕ) (n : ℕ) → n ≤ noRow → Q .rows ≡ table n parent code
     → ((i : ℕ) → i < n → getD mark i 0 ≡ markCode (is (ℕ-discrete i (Q .s))) (is (ℕ-discrete i (Q .d)))) → tableTree parent code mark n ≡ treeOf Q
 table-tree Q parent code mark n few e marks = tree-is parent code mark n (Q .s) (Q .d) few marks ∙ ap treeOf (λ v. record { rows = sym e v; s = Q .s; d = Q .d })
 
 -- the table of a tree query may be put in order
-pub table-of-tree : (parent code mark : List ℕ) (n : ℕ) → n ≤ 256 → n ≤ length parent → n ≤ length code → n ≤ length mark
-    → ((i : ℕ) → i < n → getD code i 0 ≤ suc largestLabel) → ((i : ℕ) → i < n → getD mark i 0 ≤ 3) → Tree (tableRows parent code n 0) → TreeTable parent code mark n
+pub table-of-tree : (parent code mark : List ℕ) (n : ℕ) → n ≤ mostNodes → n ≤ length parent → n ≤ length code → n ≤ length mark
+    → ((i : ℕ) → i < n → getD code i 0 ≤ suc largestLabel) → ((i : ℕ) → i < n → getD mark i 0 ≤ 3) → Tree (table n parent code) → TreeTable parent code mark n
 table-of-tree parent code mark n few lp lc lm labels marked T = record {
   few = few;
   parents = lp;
@@ -131,19 +140,10 @@ table-of-tree parent code mark n few lp lc lm labels marked T = record {
   labels = labels;
   marked = marked;
   level = T .lev;
-  linked = λ i l d. let z = T .linked i (getD parent i 0) (labOf (getD code i 0)) (at-row parent code n i l ∙ rw (ne-eqb (getD parent i 0) noRow d)) in (live (getD parent i 0) (z .0) (decLt (getD parent i 0) n), z .1);
+  linked = λ i l d.
+      let z = T .linked i (getD parent i 0) (labOf (getD code i 0)) (row-table n parent code i l (some (getD parent i 0)) (parent-some (getD parent i 0) d)) in
+      (live-below n parent code (getD parent i 0) (z .0), z .1);
   top = T .top;
   topLevel = T .topLev;
-  single = λ i l e. T .single i (labOf (getD code i 0), at-row parent code n i l ∙ rw (eq-eqb (getD parent i 0) noRow e));
+  single = λ i l e. T .single i (labOf (getD code i 0), row-table n parent code i l none (parent-none (getD parent i 0) e));
 }
-  where
-    live : (p : ℕ) → Live (tableRows parent code n 0) p → Dec (p < n) → p < n
-    live p h (yes l) = l
-    live p (u, l, e) (no d) = let z : none ≡ some (node u l) = sym (beyond-rows parent code n 0 p (omega arith)) ∙ e in absurd (none-some z)
-      where
-        Told : Option Row → Type 0
-        Told none = Unit {0}
-        Told (some r) = ⊥
-
-        none-some : none ≡ some (node u l) → ⊥
-        none-some q = subst Told q tt

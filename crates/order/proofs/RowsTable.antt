@@ -13,7 +13,7 @@ use borrow.Author.Tests.{eq-eqb, ne-eqb}
 use Rattle.meaning.specs.Tree.{Forest, bare, tree, size, plant}
 use Rattle.rows.specs.Rows.{tagAt, below, shape, mapT, treeRows, Holds, Hung, noRow, Rows}
 use Rattle.rows.proofs.Rows.{size-holds, holds-first, row-opens, rows-top, row-up}
-use Rattle.order.specs.Table.{childrenOf, grown, tableShape, tableTree, TreeTable, ParentsFirst}
+use Rattle.rows.specs.Table.{childrenOf, grown, tableShape, tableTree, TreeTable, ParentsFirst}
 
 -- ------------------------------------------------------------------ children in rows
 -- the first nodes of the trees of a forest

@@ -12,7 +12,7 @@ use lib.Seq.{getD-set-same, getD-set-other}
 use borrow.Author.Tests.{eq-eqb, ne-eqb}
 use Rattle.meaning.specs.Tree.{Forest, tree, size, plant}
 use Rattle.rows.specs.Rows.{noRow}
-use Rattle.order.specs.Table.{childrenOf, grown, tableShape, TreeTable, ParentsFirst}
+use Rattle.rows.specs.Table.{childrenOf, grown, tableShape, TreeTable, ParentsFirst}
 use Rattle.order.specs.Keys.{keyOf}
 use Rattle.order.specs.Gathering.{Known, slotOf, Cleared}
 use Rattle.order.specs.Links.{forestAt, Linked, In, Apart, orderedBy, Ready, Placed}

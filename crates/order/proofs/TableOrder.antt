@@ -13,7 +13,7 @@ use Rattle.meaning.specs.Tree.{Forest, bare, tree, size, plant}
 use Rattle.meaning.specs.Image.{ordered}
 use Rattle.rows.specs.Rows.{tagAt, shape, mapT, treeRows, Holds, width, Counted, noRow, Rows}
 use Rattle.rows.proofs.Rows.{lab-code, mark-code, holds-is}
-use Rattle.order.specs.Table.{childrenOf, grown, tableShape, tableTree, TreeTable}
+use Rattle.rows.specs.Table.{childrenOf, grown, tableShape, tableTree, TreeTable}
 use Rattle.order.specs.Gathering.{Counts}
 use Rattle.order.specs.Keys.{Keys}
 use Rattle.order.specs.Links.{orderedBy}

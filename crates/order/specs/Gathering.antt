@@ -8,7 +8,7 @@ use Prim.Native.Nat.{ℕ, _-_, _≤_, _<_}
 use lib.ListN.{length, getD}
 use lib.Dec.{ltb}
 use Rattle.rows.specs.Rows.{noRow}
-use Rattle.order.specs.Table.{childrenOf}
+use Rattle.rows.specs.Table.{childrenOf}
 
 -- p is a row, or stands for no parent
 abbrev pub Known : ℕ → ℕ → Type 0

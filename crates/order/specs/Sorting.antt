@@ -6,7 +6,7 @@ use Prim.Native.Nat.{ℕ, _-_, _≤_, _<_}
 use lib.ListN.{length, getD}
 use Rattle.meaning.specs.Tree.{Forest, plant}
 use Rattle.rows.specs.Rows.{noRow}
-use Rattle.order.specs.Table.{childrenOf, grown, tableShape, TreeTable, ParentsFirst}
+use Rattle.rows.specs.Table.{childrenOf, grown, tableShape, TreeTable, ParentsFirst}
 use Rattle.order.specs.Keys.{keyOf, Keys}
 use Rattle.order.specs.Gathering.{Known, slotOf, Counts}
 use Rattle.order.specs.Links.{forestAt, Linked, Finite, Wide, orderedBy}

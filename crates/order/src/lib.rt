@@ -4,11 +4,11 @@
 // a list is the test for its bounds.
 // Two brothers are compared without writing their records out: one key a row stands for the first three numbers of its record.
 ghost use mathlib.Core.Path.{_≡_};
-ghost use Prim.Native.Nat.{ℕ, suc, _+_, _<_, _≤_};
+ghost use Prim.Native.Nat.{suc, _+_, _<_, _≤_};
 ghost use lib.ListN.{length, getD, set};
 ghost use Rattle.meaning.specs.Image.{ordered};
 ghost use Rattle.rows.specs.Rows.{Rows, treeRows};
-ghost use Rattle.order.specs.Table.{TreeTable, ParentsFirst, tableTree};
+ghost use Rattle.rows.specs.Table.{TreeTable, ParentsFirst, tableTree};
 ghost use Rattle.order.specs.Keys.{written, keyOf};
 ghost use Rattle.order.specs.Gathering.{slotOf, Cleared, Slots, Gathered};
 ghost use Rattle.order.specs.Links.{Wide, Finite, forestAt, cmpF, goesFirst, spotOf, Ready, Placed};

@@ -4,15 +4,16 @@ use mathlib.Core.Path.{_≡_, refl, ap, _∙_}
 use mathlib.Core.Logic.{_⊎_, inl, inr}
 use mathlib.Core.Option.{none, some}
 use mathlib.Core.List.{List, [], _∷_, _++_}
-use Prim.Native.Nat.{ℕ, zero, suc, _+_, _-_, _%_, _<_, _≤_}
+use Prim.Native.Nat.{ℕ, zero, suc, _+_, _-_, _<_, _≤_}
 use native.Mathlib.Omega.{arith}
 use native.Mathlib.Decide.{ℕ-discrete, decLt}
 use lib.ListN.{length, getD, length-append}
-use lib.Dec.{ltb, eqb}
 use borrow.Author.Tests.{lt-ltb, le-ltb}
 use Rattle.meaning.specs.Basics.{look}
 use Rattle.meaning.specs.Tree.{Forest, bare, tree, size, preorder}
 use Rattle.meaning.specs.Image.{labCode, markCode}
+use Rattle.theory.proofs.Look.{look-left, look-right}
+use Rattle.bits.specs.Bits.{bitOf}
 use Rattle.rows.specs.Rows.{labOf, tagAt, brothers, below, shape, mapT, treeRows, Holds, width, Counted, Hung, noRow, Rows}
 
 -- ------------------------------------------------------------------ what a code and a mark stand for
@@ -20,7 +21,8 @@ pub lab-code : (c : ℕ) → labCode (labOf c) ≡ c
 lab-code zero = refl
 lab-code (suc l) = refl
 
-pub mark-code : (m : ℕ) → m ≤ 3 → markCode (eqb (m % 2) 1) (ltb 1 m) ≡ m
+pub mark-code : (m : ℕ) → m ≤ 3 → markCode (bitOf m 0) (bitOf m 1) ≡ m
+unfolding bitOf
 mark-code zero h = refl
 mark-code (suc zero) h = refl
 mark-code (suc (suc zero)) h = refl
@@ -88,15 +90,6 @@ holds-opens span u e (tree i k r) h c l m = go (h .0) (ℕ-discrete c u) (decLt 
         record { some = o .some; inside = omega (arith, o .inside); held = o .held }
 
 -- ------------------------------------------------------------------ row u is node u in image order
-look-left : {A : Type 0} (xs ys : List A) (i : ℕ) → i < length xs → look (xs ++ ys) i ≡ look xs i
-look-left [] ys i l = absurd (omega arith)
-look-left (x ∷ xs) ys zero l = refl
-look-left (x ∷ xs) ys (suc i) l = look-left xs ys i (omega arith)
-
-look-right : {A : Type 0} (xs ys : List A) (i : ℕ) → look (xs ++ ys) (length xs + i) ≡ look ys i
-look-right [] ys i = let z : 0 + i ≡ i = omega arith in ap (look ys) z
-look-right (x ∷ xs) ys i = let z : suc (length xs) + i ≡ suc (length xs + i) = omega arith in ap (look (x ∷ (xs ++ ys))) z ∙ look-right xs ys i
-
 look-beyond : {A : Type 0} (xs : List A) (i : ℕ) → length xs ≤ i → look xs i ≡ none
 look-beyond [] i l = refl
 look-beyond (x ∷ xs) zero l = absurd (omega arith)

@@ -2,14 +2,16 @@
 -- For each row there are five numbers: the label code and the mark of its record, the number of its children, its span (the rows that it and
 -- all below it take) and the row of its parent. The first child of row u is row u + 1, the next brother of row c is row c + span c.
 use mathlib.Core.Path.{_≡_}
-use mathlib.Core.Bool.{cond}
+use mathlib.Core.Bool.{Bool, true, false, _&&_, cond}
 use mathlib.Core.List.{List}
-use Prim.Native.Nat.{ℕ, zero, suc, _+_, _%_, _≤_, _<_}
+use Prim.Native.Nat.{ℕ, zero, suc, _+_, _≤_, _<_}
 use lib.ListN.{length, getD}
-use lib.Dec.{ltb, eqb}
+use lib.Dec.{ltb, leb}
+use Rattle.meaning.specs.Limits.{mostNodes}
 use Rattle.meaning.specs.Number.{largestLabel}
 use Rattle.meaning.specs.TreeQuery.{Lab, any, lab}
 use Rattle.meaning.specs.Tree.{Forest, bare, tree, Tag, size}
+use Rattle.bits.specs.Bits.{bitOf}
 
 -- ------------------------------------------------------------------ reading the rows
 -- what a label code stands for: "0 wildcard, else L+1"
@@ -17,9 +19,23 @@ abbrev pub labOf : ℕ → Lab
 labOf zero = any
 labOf (suc l) = lab l
 
--- what row u bears: "mark (0 none, 1 s, 2 d, 3 both)"
+-- what row u bears: "mark (0 none, 1 s, 2 d, 3 both)", so s is bit 0 and d is bit 1
 abbrev pub tagAt : List ℕ → List ℕ → ℕ → Tag
-tagAt code mark u = record { lab = labOf (getD code u 0); src = eqb (getD mark u 0 % 2) 1; dst = ltb 1 (getD mark u 0) }
+tagAt code mark u = record { lab = labOf (getD code u 0); src = bitOf (getD mark u 0) 0; dst = bitOf (getD mark u 0) 1 }
+
+-- some row bears the mark of this bit
+abbrev pub Borne : List ℕ → ℕ → Type 0
+Borne mark bit = (u : ℕ) × (u < length mark) × (bitOf (getD mark u 0) bit ≡ true)
+
+-- the first row that does
+pub record FirstRow (mark : List ℕ) (bit r : ℕ) : Type 0 where
+  pub inside : r < length mark
+  pub here : bitOf (getD mark r 0) bit ≡ true
+  pub before : (u : ℕ) → u < r → bitOf (getD mark u 0) bit ≡ false
+
+-- row x lies at or below row c
+unfoldable pub covers : List ℕ → ℕ → ℕ → Bool
+covers span c x = leb c x && ltb x (c + getD span c 0)
 
 -- the brothers in the rows from u up to e, each with all below it, as row numbers. Every row moves u on, so e - u is enough fuel
 unfoldable pub brothers : ℕ → List ℕ → ℕ → ℕ → Forest ℕ
@@ -71,7 +87,7 @@ noRow = 65535
 
 -- n rows that are a tree, or no rows
 pub record Rows (code mark kids span up : List ℕ) (n : ℕ) : Type 0 where
-  pub few : n ≤ 256
+  pub few : n ≤ mostNodes
   pub codes : n ≤ length code
   pub marks : n ≤ length mark
   pub counts : n ≤ length kids

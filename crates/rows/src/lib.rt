@@ -1,1 +1,64 @@
-// A tree as rows in image order. The definitions stand in specs/, their laws in proofs/; there is no code here.
+// Rows in image order, as the code reads them: links and spans are numbers of sixteen bits, marks are read by bits.
+// One call for each read keeps the proofs of its callers short.
+ghost use mathlib.Core.Path.{_≡_};
+ghost use Prim.Native.Nat.{_<_};
+ghost use lib.ListN.{length, getD, set};
+ghost use Rattle.meaning.specs.Limits.{mostNodes};
+ghost use Rattle.rows.specs.Rows.{Borne, FirstRow, covers};
+
+// The parent of the top: no row.
+pub const NO_ROW: u16 = 65535;
+
+// The parent of a row that folding has taken out.
+pub const GONE: u16 = 65534;
+
+// The bits of a mark: "mark (0 none, 1 s, 2 d, 3 both)".
+pub const S: usize = 0;
+
+pub const D: usize = 1;
+
+// A link as a row number.
+pub fn wide(p: u16) -> usize
+    ensures { λ r. ⌜ (r ≡ p) × (r < 65536) ⌝ }
+{
+    p as usize
+}
+
+// What stands at i: a link, a span or a count.
+pub fn link(t: &[u16], i: usize) -> usize
+    requires { ⌜ i < length (now t) ⌝ }
+    ensures { λ r. ⌜ (r ≡ getD (now (t .entry)) i 0) × (r < 65536) ⌝ }
+{
+    wide(t[i])
+}
+
+// Puts v at i.
+pub fn set_link(t: &mut [u16], i: usize, v: usize)
+    requires { ⌜ (i < length (now t)) × (v < 65536) ⌝ }
+    ensures { λ _. ⌜ now (t .exit) ≡ set (now (t .entry)) i v ⌝ }
+{
+    t[i] = v as u16;
+}
+
+// Row x lies at or below row c.
+pub fn holds(span: &[u16], c: usize, x: usize) -> bool
+    requires { ⌜ (c < length (now span)) × (c < mostNodes) ⌝ }
+    ensures { λ r. ⌜ r ≡ covers (now (span .entry)) c x ⌝ }
+{
+    if x < c {
+        return false;
+    }
+    x < c + link(span, c)
+}
+
+// The first row that bears the mark: bit S or bit D.
+pub fn row_of(mark: &[u8], bit: usize) -> usize
+    requires { ⌜ (bit < 8) × Borne (now mark) bit ⌝ }
+    ensures { λ r. ⌜ FirstRow (now (mark .entry)) bit r ⌝ }
+{
+    let mut u: usize = 0;
+    while !bits::bit_of(mark[u], bit) {
+        u += 1;
+    }
+    u
+}

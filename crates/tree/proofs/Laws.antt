@@ -21,9 +21,9 @@ use Rattle.theory.proofs.Limits.{InRange}
 use Rattle.theory.proofs.Accepted.{accepted}
 use Rattle.theory.proofs.Look.{live-lt}
 use Rattle.rows.specs.Rows.{Rows, treeRows, shape, brothers, mapT, labOf, noRow}
-use Rattle.order.specs.Table.{TreeTable, tableTree, tableRows}
+use Rattle.rows.specs.Table.{TreeTable, tableTree, tableRows}
 use Rattle.order.proofs.QueryTable.{table-tree, table-of-tree}
-use Rattle.glue.specs.Rows.{parentOf, rowAt, listed, table, query, ifRows}
+use Rattle.rows.specs.Table.{parentOf, rowAt, listed, table, query, ifRows}
 use Rattle.tree.specs.Trees.{Accepted, Ends, BuiltRows}
 
 -- ------------------------------------------------------------------ marks

@@ -5,7 +5,7 @@ use Prim.Native.Nat.{ℕ}
 use Rattle.meaning.specs.Folding.{minimal}
 use Rattle.meaning.specs.Image.{ordered}
 use Rattle.rows.specs.Rows.{Rows, treeRows}
-use Rattle.order.specs.Table.{tableTree}
+use Rattle.rows.specs.Table.{tableTree}
 use Rattle.order.proofs.RowsTable.{rows-tree}
 use Rattle.fold.specs.Kept.{RowsFolded, RowsKept}
 use Rattle.tree.specs.Trees.{BuiltRows, PlainRows, MinimalRows}

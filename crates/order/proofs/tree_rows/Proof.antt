@@ -1,5 +1,5 @@
 use mathlib.Core.Path.{refl, _∙_}
-use Rattle.order.specs.Table.{tableTree}
+use Rattle.rows.specs.Table.{tableTree}
 use Rattle.order.proofs.TableOrder.{whole-shape}
 use Rattle.order.proofs.ImageRows.{slots, read, roomy, bearing, finished}
 use borrow.Author.Needs.{needs}

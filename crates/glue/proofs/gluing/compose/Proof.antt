@@ -1,7 +1,7 @@
 -- The tables lie side by side, and then d is glued to s.
 use native.Mathlib.Omega.{arith}
 use borrow.Author.Needs.{needs}
-use Rattle.glue.proofs.Codes.{live-below}
+use Rattle.rows.proofs.Table.{live-below}
 use Rattle.glue.proofs.Shift.{links-small}
 use Rattle.glue.proofs.TwoTrees.{safe-two, compose-end}
 use Rattle.glue.proofs.gluing.compose.Statement.{statement}

@@ -4,8 +4,8 @@ use Prim.Native.Nat.{_≤_, _<_, _-_, _+_}
 use native.Mathlib.Omega.{arith}
 use borrow.Author.Needs.{needs}
 use Rattle.meaning.specs.Gluing.{depth}
-use Rattle.glue.specs.Rows.{table}
-use Rattle.glue.proofs.Codes.{parent-some}
+use Rattle.rows.specs.Table.{table}
+use Rattle.rows.proofs.Table.{parent-some}
 use Rattle.glue.proofs.Depth.{depth-start, depth-top, depth-up, depth-out}
 use Rattle.glue.proofs.gluing.depth_of.Statement.{statement}
 use Rattle.glue.proofs.gluing.depth_of.Tie as tie

@@ -2,7 +2,7 @@
 use mathlib.Core.Path.{_∙_}
 use native.Mathlib.Omega.{arith}
 use borrow.Author.Needs.{needs}
-use Rattle.glue.proofs.Codes.{live-below}
+use Rattle.rows.proofs.Table.{live-below}
 use Rattle.glue.proofs.Shift.{links-small}
 use Rattle.glue.proofs.TwoTrees.{safe-two, intersect-empty, intersect-mid}
 use Rattle.glue.proofs.gluing.intersect.Statement.{statement}

@@ -1,5 +1,5 @@
 -- A tree as a table of parents: row i has its parent's row, noRow at the top, and bears a label code and a mark.
--- Its brothers stand in the order of the table, which is any order.
+-- Its brothers stand in the order of the table, which is any order. "No rows" stands for empty.
 use mathlib.Core.Path.{_≡_}
 use mathlib.Core.Bool.{cond}
 use mathlib.Core.Option.{Option, none, some}
@@ -7,13 +7,51 @@ use mathlib.Core.List.{List, [], _∷_}
 use Prim.Native.Nat.{ℕ, zero, suc, _≤_, _<_}
 use lib.ListN.{length, getD}
 use lib.Dec.{eqb}
+use Rattle.meaning.specs.Limits.{mostNodes}
 use Rattle.meaning.specs.Number.{largestLabel}
-use Rattle.meaning.specs.TreeQuery.{node}
-use Rattle.meaning.specs.TreeQuery as TreeQuery
+use Rattle.meaning.specs.TreeQuery.{Row, node, Table, Query, Tree}
 use Rattle.meaning.specs.Tree.{Forest, bare, Tag, plant}
 use Rattle.rows.specs.Rows.{labOf, tagAt, mapT, noRow}
 
--- ------------------------------------------------------------------ reading the tree off the table
+-- ------------------------------------------------------------------ the tree query of a table
+-- the parent that a number stands for
+unfoldable pub parentOf : ℕ → Option ℕ
+parentOf p = cond (eqb p noRow) none (some p)
+
+abbrev pub rowAt : List ℕ → List ℕ → ℕ → Row
+rowAt P L i = node (parentOf (getD P i 0)) (labOf (getD L i 0))
+
+abbrev pub listed : ℕ → (ℕ → Row) → Table
+listed zero f = []
+listed (suc n) f = f 0 ∷ listed n (λ i. f (suc i))
+
+-- the first n rows
+unfoldable pub table : ℕ → List ℕ → List ℕ → Table
+table n P L = listed n (rowAt P L)
+
+-- the query whose rows are the first n
+abbrev pub query : ℕ → List ℕ → List ℕ → ℕ → ℕ → Query
+query n P L s d = record { rows = table n P L; s = s; d = d }
+
+-- no rows: empty
+abbrev pub ifRows : {A : Type 0} → ℕ → A → Option A
+ifRows zero a = none
+ifRows (suc n) a = some a
+
+-- the query of the first n rows, or empty
+abbrev pub queryOf : List ℕ → List ℕ → ℕ → ℕ → ℕ → Option Query
+queryOf P L n s d = ifRows n (query n P L s d)
+
+-- the first n rows of a table are a tree query with the nodes s and d, or there are none
+pub record QueryTable (parent code : List ℕ) (n s d : ℕ) : Type 0 where
+  pub few : n ≤ mostNodes
+  pub parents : n ≤ length parent
+  pub codes : n ≤ length code
+  pub labels : (i : ℕ) → i < n → getD code i 0 ≤ suc largestLabel
+  pub ends : 0 < n → (s < n) × (d < n)
+  pub tree : 0 < n → Tree (table n parent code)
+
+-- ------------------------------------------------------------------ the tree of a table, with marks
 -- those of the k rows from j on whose parent is p, in the order of the table
 unfoldable pub childrenOf : ℕ → List ℕ → ℕ → ℕ → List ℕ
 childrenOf p parent zero j = []
@@ -32,20 +70,10 @@ tableShape parent n = grown (suc n) parent n noRow
 unfoldable pub tableTree : List ℕ → List ℕ → List ℕ → ℕ → Forest Tag
 tableTree parent code mark n = mapT (tagAt code mark) (tableShape parent n)
 
--- ------------------------------------------------------------------ the table of a tree query
--- the parent that a number stands for
-abbrev pub parentOf : ℕ → Option ℕ
-parentOf p = cond (eqb p noRow) none (some p)
-
--- the k rows from j on, as rows of a tree query
-unfoldable pub tableRows : List ℕ → List ℕ → ℕ → ℕ → TreeQuery.Table
-tableRows parent code zero j = []
-tableRows parent code (suc k) j = node (parentOf (getD parent j 0)) (labOf (getD code j 0)) ∷ tableRows parent code k (suc j)
-
 -- ------------------------------------------------------------------ when a table is a tree
 -- n rows that are a tree, or no rows: levels say that no row lies above itself, and at most one row, at level 0, has no parent
 pub record TreeTable (parent code mark : List ℕ) (n : ℕ) : Type 0 where
-  pub few : n ≤ 256
+  pub few : n ≤ mostNodes
   pub parents : n ≤ length parent
   pub codes : n ≤ length code
   pub marks : n ≤ length mark
