@@ -12,6 +12,7 @@ pub mod image;
 pub mod library;
 pub mod options;
 mod question;
+pub mod returned;
 mod run;
 mod signs;
 pub mod stand_in;
