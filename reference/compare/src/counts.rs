@@ -54,6 +54,16 @@ impl Counts {
         })
     }
 
+    /// How many words there were, or cases of a corpus.
+    pub fn words(&self) -> u64 {
+        self.words.values().sum()
+    }
+
+    /// How many calls there were.
+    pub fn calls(&self) -> u64 {
+        self.calls
+    }
+
     /// What has to occur in every comparison and didn't.
     pub fn missing(&self) -> Vec<String> {
         let answers = [
@@ -74,7 +84,7 @@ impl Counts {
 
 impl Display for Counts {
     fn fmt(&self, f: &mut Formatter) -> fmt::Result {
-        let words: u64 = self.words.values().sum();
+        let words = self.words();
         let Counts {
             calls,
             written,
