@@ -5,6 +5,7 @@ use super::case::{number, Asked, Case, Written};
 use super::{BEGIN, LONGEST_CASE, MOST_ROWS, WORKSPACE_BUFFER};
 use crate::generator::Generator;
 use crate::question::question;
+use crate::returned::{is_refused, value};
 use crate::stand_in;
 use crate::words::{made, Made, EXACT_WORDS};
 use reference::LONGEST_NORMAL_FORM;
@@ -80,9 +81,9 @@ fn case(generator: &mut Generator, word: Vec<u8>, most_rows: usize) -> Case {
 
 /// Mostly enough for the answer, so that it stands in the corpus.
 fn room(generator: &mut Generator, returned: u64) -> usize {
-    let answer = returned as usize;
+    let answer = value(returned);
     match generator.below(16) {
-        _ if returned >> 32 != 0 => generator.below(20),
+        _ if is_refused(returned) => generator.below(20),
         0 => answer - 1,
         1 => generator.below(answer),
         2..8 => answer + generator.below(16),

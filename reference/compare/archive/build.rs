@@ -4,12 +4,9 @@ use std::env;
 use std::path::PathBuf;
 
 fn main() {
+    let folder = folder();
     println!("cargo:rerun-if-changed=build.rs");
     println!("cargo:rerun-if-env-changed=PATHPLUS_LIB");
-    if env::var_os("CARGO_FEATURE_STAND_IN").is_some() {
-        return;
-    }
-    let folder = folder();
     println!("cargo:rustc-link-search=native={}", folder.display());
     let archive = folder.join("libpathplus.a");
     println!("cargo:rerun-if-changed={}", archive.display());
@@ -18,6 +15,6 @@ fn main() {
 /// The folder named by PATHPLUS_LIB, or the one the archive is built into.
 fn folder() -> PathBuf {
     let package = env::var_os("CARGO_MANIFEST_DIR").expect("cargo names the package's folder");
-    let built = PathBuf::from(package).join("../../target/staticlib");
+    let built = PathBuf::from(package).join("../../../target/staticlib");
     env::var_os("PATHPLUS_LIB").map_or(built, PathBuf::from)
 }
