@@ -8,6 +8,7 @@ use native.Mathlib.Omega.{arith}
 use lib.ListN.{length, getD, set, length-set}
 use lib.Seq.{getD-set-same}
 use Rattle.meaning.specs.Expression.{Expr}
+use Rattle.meaning.specs.Limits.{mostNodes, mostPending}
 use Rattle.meaning.specs.Number.{largestLabel, readNumber}
 use Rattle.meaning.specs.TreeQuery.{node, Query, TreeQuery}
 use Rattle.meaning.specs.Gluing.{plain}
@@ -26,7 +27,7 @@ use Rattle.word.proofs.Accepted.{accepted-start, accepted-end, accepted-number,
 use Rattle.theory.proofs.Look.{never}
 use Rattle.glue.specs.declared.gluing.Built.{Built}
 use Rattle.rows.specs.Table.{parentOf, table, query}
-use Rattle.glue.specs.Rows.{part, builtOf}
+use Rattle.glue.specs.Rows.{poolRows, part, builtOf}
 use Rattle.glue.specs.Pool.{Pool, pool, operand, stack, Sound, Holds, HoldsNone, HoldsOnly, Passes, Applies, PlainRows}
 use Rattle.rows.proofs.Table.{parent-none, parent-some, length-table, at-table, row-table, live-below, rows-some}
 use Rattle.glue.proofs.Taking.{holds-length}
@@ -47,7 +48,7 @@ pub number-same : {sign next sign′ next′ : ℕ} → Number sign next ≡ Num
 number-same e = cc
 
 -- before the first sign
-pub holds-start : (P L F S D : List ℕ) → (512 ≤ length P) × (512 ≤ length L) × (257 ≤ length F) × (256 ≤ length S) × (256 ≤ length D)
+pub holds-start : (P L F S D : List ℕ) → (poolRows ≤ length P) × (poolRows ≤ length L) × (mostPending < length F) × (mostPending ≤ length S) × (mostPending ≤ length D)
     → HoldsNone (pool P L (set F 0 0) S D)
 unfolding stack
 holds-start P L F S D (lp, ll, lf, ls, ld) = record {
@@ -98,7 +99,7 @@ module _ (w : List ℕ) (p : Pool) (n at : ℕ) (d : Reading w p n at) where
 
 -- ------------------------------------------------------------------ what is built
 -- the rows of a tree query within the limits of an accepted word
-module _ (r : Built) (P L : List ℕ) (lp : 512 ≤ length P) (ll : 512 ≤ length L) where
+module _ (r : Built) (P L : List ℕ) (lp : poolRows ≤ length P) (ll : poolRows ≤ length L) where
   no-rows : r .rows ≡ 0 → PlainRows r P L
   no-rows z = record {
     few = omega arith;
@@ -114,7 +115,7 @@ module _ (r : Built) (P L : List ℕ) (lp : 512 ≤ length P) (ll : 512 ≤ leng
     single = λ i lt. absurd (omega arith);
   }
 
-  some-rows : TreeQuery (query (r .rows) P L (r .s) (r .d)) → r .rows ≤ 256 → RowsIn InRange (some (query (r .rows) P L (r .s) (r .d))) → PlainRows r P L
+  some-rows : TreeQuery (query (r .rows) P L (r .s) (r .d)) → r .rows ≤ mostNodes → RowsIn InRange (some (query (r .rows) P L (r .s) (r .d))) → PlainRows r P L
   some-rows t few range = record {
     few = few;
     parents = omega arith;

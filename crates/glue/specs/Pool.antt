@@ -11,12 +11,13 @@ use Rattle.meaning.specs.Basics.{mapped}
 use Rattle.meaning.specs.Expression.{Expr, steps}
 use Rattle.meaning.specs.TreeQuery.{Query}
 use Rattle.meaning.specs.Gluing.{composed, intersected, two, plain}
+use Rattle.meaning.specs.Limits.{mostNodes, mostPending, mostSteps}
 use Rattle.meaning.specs.Number.{largestLabel}
 use Rattle.meaning.specs.Word.{Pending, takes, answered}
 use Rattle.rows.specs.Rows.{noRow}
 use Rattle.theory.proofs.Plain.{TreeO}
 use Rattle.glue.specs.declared.gluing.Built.{Built}
-use Rattle.glue.specs.Rows.{part, builtOf}
+use Rattle.glue.specs.Rows.{poolRows, part, builtOf}
 
 pub record Pool : Type 0 where
   pub parent : List ℕ
@@ -38,15 +39,15 @@ stack p (suc n) = operand p n ∷ stack p n
 
 -- the slices are as long as they must be, and the rows of the n operands follow one another from row 0 on
 pub record Sound (p : Pool) (n : ℕ) : Type 0 where
-  pub parents : 512 ≤ length (p .parent)
-  pub labels : 512 ≤ length (p .label)
-  pub firsts : 257 ≤ length (p .first)
-  pub marksS : 256 ≤ length (p .s)
-  pub marksD : 256 ≤ length (p .d)
-  pub few : n ≤ 256
+  pub parents : poolRows ≤ length (p .parent)
+  pub labels : poolRows ≤ length (p .label)
+  pub firsts : suc mostPending ≤ length (p .first)
+  pub marksS : mostPending ≤ length (p .s)
+  pub marksD : mostPending ≤ length (p .d)
+  pub few : n ≤ mostPending
   pub start : getD (p .first) 0 0 ≡ 0
   pub up : (k : ℕ) → k < n → getD (p .first) k 0 ≤ getD (p .first) (k + 1) 0
-  pub end : (k : ℕ) → k ≤ n → getD (p .first) k 0 ≤ 512
+  pub end : (k : ℕ) → k ≤ n → getD (p .first) k 0 ≤ poolRows
 
 -- the pool holds these operands, n of them
 pub record Stands (p : Pool) (n : ℕ) (qs : List (Option Query)) : Type 0 where
@@ -89,7 +90,7 @@ allSteps (e ∷ es) = steps e + allSteps es
 pub record Holds (p : Pool) (n : ℕ) (st : Pending) : Type 0 where
   pub stands : Stands p n (map plain (st .operands))
   pub count : allSteps (st .operands) ≡ st .steps
-  pub few : st .steps ≤ 255
+  pub few : st .steps ≤ mostSteps
 
 -- a sign that the word's check lets pass
 abbrev pub Passes : Pool → ℕ → ℕ → Type 0
@@ -109,7 +110,7 @@ Applies p n sign p′ n′ = (st st′ : Pending) (at : ℕ) → Holds p n st �
 -- ------------------------------------------------------------------ what is built
 -- the rows of r are a tree, or there are none; the marks are among them
 pub record PlainRows (r : Built) (P L : List ℕ) : Type 0 where
-  pub few : r .rows ≤ 256
+  pub few : r .rows ≤ mostNodes
   pub parents : r .rows ≤ length P
   pub codes : r .rows ≤ length L
   pub labels : (i : ℕ) → i < r .rows → getD L i 0 ≤ suc largestLabel
