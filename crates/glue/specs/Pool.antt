@@ -1,7 +1,6 @@
 -- The pending operands in one pool of rows: the rows of operand k start at entry k of `first` and end before entry k + 1, its marks are the
 -- entries k of `s` and `d`, and its links count from its own first row. An operand without rows is empty.
 use mathlib.Core.Path.{_≡_}
-use mathlib.Core.Logic.{_≢_}
 use mathlib.Core.Bool.{Bool, true, false}
 use mathlib.Core.Option.{Option}
 use mathlib.Core.List.{List, [], _∷_, map}
@@ -11,10 +10,8 @@ use Rattle.meaning.specs.Basics.{mapped}
 use Rattle.meaning.specs.Expression.{Expr, steps}
 use Rattle.meaning.specs.TreeQuery.{Query}
 use Rattle.meaning.specs.Gluing.{composed, intersected, two, plain}
-use Rattle.meaning.specs.Limits.{mostNodes, mostPending, mostSteps}
-use Rattle.meaning.specs.Number.{largestLabel}
+use Rattle.meaning.specs.Limits.{mostPending, mostSteps}
 use Rattle.meaning.specs.Word.{Pending, takes, answered}
-use Rattle.rows.specs.Rows.{noRow}
 use Rattle.theory.proofs.Plain.{TreeO}
 use Rattle.glue.specs.declared.gluing.Built.{Built}
 use Rattle.glue.specs.Rows.{poolRows, part, builtOf}
@@ -106,18 +103,3 @@ HoldsOnly p e = (st : Pending) × (st .operands ≡ e ∷ []) × Holds p 1 st
 -- one sign: the pool p, which held the pending operands before it, is p′ after it
 abbrev pub Applies : Pool → ℕ → ℕ → Pool → ℕ → Type 0
 Applies p n sign p′ n′ = (st st′ : Pending) (at : ℕ) → Holds p n st → takes sign st at ≡ answered st′ → Holds p′ n′ st′
-
--- ------------------------------------------------------------------ what is built
--- the rows of r are a tree, or there are none; the marks are among them
-pub record PlainRows (r : Built) (P L : List ℕ) : Type 0 where
-  pub few : r .rows ≤ mostNodes
-  pub parents : r .rows ≤ length P
-  pub codes : r .rows ≤ length L
-  pub labels : (i : ℕ) → i < r .rows → getD L i 0 ≤ suc largestLabel
-  pub sIn : r .rows ≢ 0 → r .s < r .rows
-  pub dIn : r .rows ≢ 0 → r .d < r .rows
-  pub level : ℕ → ℕ
-  pub linked : (i : ℕ) → i < r .rows → getD P i 0 ≢ noRow → (getD P i 0 < r .rows) × (level i ≡ suc (level (getD P i 0)))
-  pub top : ℕ
-  pub topLevel : level top ≡ 0
-  pub single : (i : ℕ) → i < r .rows → getD P i 0 ≡ noRow → i ≡ top

@@ -30,7 +30,7 @@ ghost use Rattle.meaning.specs.Limits.{mostPending};
 ghost use Rattle.meaning.specs.Word.{answered, andThen, readWord};
 ghost use Rattle.word.specs.declared.number.Read.the-variants.{Number};
 ghost use Rattle.glue.specs.Rows.{poolRows, builtOf};
-ghost use Rattle.glue.specs.Pool.{pool, Passes, Applies, HoldsNone, HoldsOnly, PlainRows};
+ghost use Rattle.glue.specs.Pool.{pool, Passes, Applies, HoldsNone, HoldsOnly};
 
 // "9+L: label L", and the code of label L is L+1.
 const CODE_TO_SIGN: u32 = FIRST_LABEL - 1;
@@ -121,7 +121,6 @@ pub fn build(
     requires { ⌜ (poolRows ≤ length (now parent)) × (poolRows ≤ length (now label))
         × (mostPending < length (now first)) × (mostPending ≤ length (now s)) × (mostPending ≤ length (now d)) ⌝ }
     ensures { λ r. ⌜ andThen (readWord (now (word .entry))) (λ e. answered (plain e)) ≡ answered (builtOf r (now (parent .exit)) (now (label .exit))) ⌝ }
-    ensures { λ r. ⌜ PlainRows r (now (parent .exit)) (now (label .exit)) ⌝ }
 {
     first[0] = 0;
     apply_signs(word, parent, label, first, s, d);
