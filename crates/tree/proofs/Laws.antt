@@ -23,7 +23,7 @@ use Rattle.order.specs.Contract.{Room as LaySpace}
 use Rattle.order.proofs.QueryTable.{table-tree, table-of-tree}
 use Rattle.order.proofs.RowsTable.{rows-tree, rows-table, rows-first}
 use Rattle.fold.specs.Kept.{RowsFolded, RowsKept}
-use Rattle.tree.specs.Trees.{Lent, Room, Ends, Sortable}
+use Rattle.tree.specs.Tables.{Lent, Room, Ends, Sortable}
 
 -- ------------------------------------------------------------------ marks
 mark-small : (a b : Bool) → markCode a b ≤ 3

@@ -11,7 +11,7 @@ ghost use Rattle.meaning.specs.Folding.{minimal};
 ghost use Rattle.meaning.specs.Image.{ordered, minimalTree};
 ghost use Rattle.rows.specs.Rows.{Rows, treeRows};
 ghost use Rattle.rows.specs.Table.{QueryTable, queryOf, tableTree};
-ghost use Rattle.tree.specs.Trees.{Lent, Room, Ends, RowsAre, Sortable};
+ghost use Rattle.tree.specs.Tables.{Lent, Room, Ends, RowsAre, Sortable};
 
 // A number of sixteen bits for each node: links, spans, numbers of children.
 pub type Links = [u16; MOST_NODES];
