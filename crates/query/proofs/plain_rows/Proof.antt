@@ -1,4 +1,4 @@
-use mathlib.Core.Path.{refl}
+use mathlib.Core.Path.{refl, sym}
 use native.Mathlib.Omega.{arith}
 use Rattle.meaning.specs.Tree.{plainTree}
 use Rattle.meaning.specs.Image.{ordered}
@@ -11,12 +11,15 @@ use Rattle.query.proofs.plain_rows.Lts as lts
 use Rattle.glue.proofs.build.build.Reads as build-reads
 use Rattle.tree.proofs.plain_rows.Reads as plain-rows-reads
 
+build-requires : tie.Need-build-requires
+build-requires c κs = (c .before .before .before .before .before .before .pre .0, (omega arith, omega arith, omega arith, omega arith, omega arith))
+
 plain-rows-requires : tie.Need-plain-rows-requires
 plain-rows-requires c κs =
     let p = c .before .before .before .before .before .before .before .before .before .before .before .before .before .before .before .before .before .before .before .before .before .before .before .pre in
     let b = c .before .before .before .before .before .before .before .before .before .before .before .before .before .before .before .before .build in
     let k = b .kept .1 in (
-      built-table _ _ _ _ _ _ (b .ensures) (p .0) (omega (arith, k .0)) (omega (arith, k .1 .0)),
+      built-table _ (b .last .1 .0) (b .last .1 .1 .0) (b .result .rows) (b .result .s) (b .result .d) (b .ensures) (p .0) (omega (arith, k .0)) (omega (arith, k .1 .0)),
       record { firsts = k .1 .1 .0; nexts = k .1 .1 .1 .0; counts = refl; rows = k .1 .1 .1 .1 .0 },
       p .1,
     )
@@ -30,13 +33,13 @@ pub plain-rows-spec : {M : Type 1} → statement M
 plain-rows-spec =
     tie.close
     (tie.spec
-    (λ c. search needs)
-    (λ c. search needs)
-    (λ c. search needs)
-    (λ c. search needs)
-    (λ c. search needs)
-    (λ c κs. search needs)
-    (λ c. search needs)
-    (λ c. search needs)
+    (λ c. refl)
+    (λ c. refl)
+    (λ c. refl)
+    (λ c. refl)
+    (λ c. refl)
+    build-requires
+    (λ c. sym (c .before .before .before .before .before .before .build .kept .1 .0))
+    (λ c. sym (c .before .before .before .before .before .before .before .build .kept .1 .1 .0))
     plain-rows-requires
     returns)
