@@ -1,4 +1,4 @@
-use mathlib.Core.Path.{_∙_}
+use mathlib.Core.Path.{refl, sym, _∙_}
 use native.Mathlib.Omega.{arith}
 use lib.ListN.{getD-replicate}
 use Rattle.tree.proofs.Laws.{ends-inside, marked-table, marked-tree, lay-space, still-lent, still-room}
@@ -39,8 +39,8 @@ pub laid-rows-spec : {M : Type 1} → statement M
 laid-rows-spec =
     tie.close
     (tie.spec
-    (λ c. search needs)
+    (λ c. refl)
     mark-ends-requires
-    (λ c. search needs)
+    (λ c. sym (c .before .before .mark-ends .kept .0))
     tree-rows-requires
     returns)

@@ -1,3 +1,4 @@
+use mathlib.Core.Path.{refl}
 use native.Mathlib.Omega.{arith}
 use Rattle.tree.proofs.Laws.{lay-space, still-room}
 use borrow.Author.Needs.{needs}
@@ -28,6 +29,6 @@ pub ordered-rows-spec : {M : Type 1} → statement M
 ordered-rows-spec =
     tie.close
     (tie.spec
-    (λ c. search needs)
+    (λ c. refl)
     image-rows-requires
     returns)
