@@ -1,9 +1,9 @@
 -- What is lent lies in the buffer.
 use native.Mathlib.Omega.{arith}
-use Rattle.io.proofs.Counting.{counts}
 use borrow.Author.Needs.{needs}
-use Rattle.vectors.proofs.place.within.Statement.{statement}
-use Rattle.vectors.proofs.place.within.Tie as tie
+use Rattle.io.proofs.Counting.{counts}
+use Rattle.vectors.proofs.input.within.Statement.{statement}
+use Rattle.vectors.proofs.input.within.Tie as tie
 
 returns : tie.Need-returns
 returns c = counts _ _ (omega arith)

@@ -1,24 +1,24 @@
--- The rows lie in the list, and the place in the case.
+-- The numbers lie in the list.
 use Prim.Native.Nat.{_-_, _≤_}
+use native.Mathlib.Omega.{arith}
 use mathlib.Core.Path.{_≡_}
 use lib.ListN.{length}
-use Rattle.io.proofs.Counting.{counts}
 use borrow.Author.Needs.{needs}
-use native.Mathlib.Omega.{arith}
-use Rattle.vectors.proofs.place.numbers.Statement.{statement}
-use Rattle.vectors.proofs.place.numbers.Tie as tie
+use Rattle.io.proofs.Counting.{counts}
+use Rattle.vectors.proofs.input.next_list.Statement.{statement}
+use Rattle.vectors.proofs.input.next_list.Tie as tie
 
 abbrev Inv-loop : tie.InvT-loop
-Inv-loop case from list₀ rows at₀ i₀ list at i = (at ≤ length case) × (i ≤ rows) × (rows ≤ length list₀) × (length list ≡ length list₀)
+Inv-loop list₀ rows i₀ list i = (i ≤ rows) × (rows ≤ length list₀) × (length list ≡ length list₀)
 
 abbrev μ-loop : tie.MeasureT-loop
-μ-loop case from list₀ rows at₀ i₀ list at i = rows - i
+μ-loop list₀ rows i₀ list i = rows - i
 
 returns : tie.Need-returns Inv-loop μ-loop
 returns c = counts _ _ (omega arith)
 
-pub numbers-spec : {M : Type 1} → statement M
-numbers-spec =
+pub next-list-spec : {M : Type 1} → statement M
+next-list-spec =
     tie.close
     (tie.spec
     Inv-loop
@@ -26,12 +26,10 @@ numbers-spec =
     (λ c κs. search needs)
     (λ c. search needs)
     (λ c κs. search needs)
-    (λ c κs. search needs)
     (λ c. search needs)
     (λ c κs. search needs)
     (λ c. search needs)
     (λ c. search needs)
-    (λ c κs. search needs)
     (λ c. search needs)
     (λ c. search needs)
     (λ c. search needs)
