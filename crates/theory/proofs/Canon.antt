@@ -212,7 +212,8 @@ module _ (D : Doc) (m n : ℕ) (b : Tag) (j : Forest Tag) where
   folds-contained a k x l = (deep-lays (tree a k bare) none x l, tt)
 
 -- ------------------------------------------------------------------ heights
-abbrev height : Forest Tag → ℕ
+-- the number of levels
+abbrev pub height : {A : Type 0} → Forest A → ℕ
 height bare = 0
 height (tree a k r) = max (suc (height k)) (height r)
 
