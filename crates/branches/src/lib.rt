@@ -6,9 +6,10 @@ ghost use lib.ListN.{length, getD};
 ghost use lib.Dec.{ltb};
 ghost use Rattle.meaning.specs.Number.{num};
 ghost use Rattle.meaning.specs.Normal.{branch as branchOf, wordOf};
+ghost use Rattle.rows.specs.Rows.{covers};
 ghost use Rattle.groups.specs.Put.{Written};
 ghost use Rattle.branches.specs.Joining.{joint, factor, fill};
-ghost use Rattle.branches.specs.Factors.{Row, labelAt, chainAt, covers, offAt, ownAt};
+ghost use Rattle.branches.specs.Factors.{Row, labelAt, chainAt, offAt, ownAt};
 
 // How many rows row u and all below it take.
 pub fn span_at(span: &[u16], u: usize) -> usize

@@ -2,7 +2,7 @@
 use mathlib.Core.Path.{sym}
 use native.Mathlib.Omega.{arith}
 use borrow.Author.Tests.{le-leb}
-use Rattle.branches.specs.Factors.{covers}
+use Rattle.rows.specs.Rows.{covers}
 use Rattle.branches.proofs.Covers.{covers-before}
 use borrow.Author.Needs.{needs}
 use Rattle.branches.proofs.holds.Statement.{statement}
