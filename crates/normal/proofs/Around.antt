@@ -11,9 +11,9 @@ use borrow.Author.Tests.{leb-true, ltb-true, eq-eqb, ne-eqb}
 use Rattle.meaning.specs.Expression.{Expr, child, parent}
 use Rattle.meaning.specs.Tree.{Forest, bare, tree, Tag, size}
 use Rattle.meaning.specs.Normal.{srcIn, dstIn, bothIn, eitherIn, someTree, ups, downs, aboveFactor, around, factors}
-use Rattle.rows.specs.Rows.{below, shape, mapT, Holds, Rows}
+use Rattle.rows.specs.Rows.{covers, below, shape, mapT, Holds, Rows}
 use Rattle.rows.proofs.Rows.{size-holds, holds-first, holds-opens, rows-top}
-use Rattle.branches.specs.Factors.{tagged, under, covers, ownAt}
+use Rattle.branches.specs.Factors.{tagged, under, ownAt}
 use Rattle.branches.proofs.Covers.{src-covers, dst-covers, either-covers, both-covers, covers-in, covers-before, covers-behind}
 use Rattle.theory.proofs.Look.{never}
 use Rattle.normal.specs.Ways.{Covers, Lowest, upsAt, downsAt, wayTo, wayAt, formAt}

@@ -1,6 +1,5 @@
 -- The normal form of rows: its factors are those of the ways, and "with no factor at all the word is 1".
 use mathlib.Core.Path.{_≡_, refl, sym, ap, _∙_}
-use mathlib.Core.Bool.{true}
 use mathlib.Core.List.{List, [], _∷_}
 use Prim.Native.Nat.{ℕ, _+_, _≤_, _<_}
 use native.Mathlib.Omega.{arith}
@@ -8,16 +7,15 @@ use lib.ListN.{length}
 use Rattle.meaning.specs.Expression.{Expr}
 use Rattle.meaning.specs.Tree.{Forest, Tag}
 use Rattle.meaning.specs.Normal.{all, factors, normal, wordOf}
-use Rattle.theory.proofs.Count.{src, dst}
-use Rattle.rows.specs.Rows.{tagAt, brothers, shape, mapT, treeRows, Rows}
+use Rattle.rows.specs.Rows.{FirstRow, brothers, shape, mapT, treeRows, Rows}
 use Rattle.rows.proofs.Rows.{rows-top}
 use Rattle.groups.specs.Put.{put, Written}
 use Rattle.groups.proofs.Put.{put-nil}
 use Rattle.branches.specs.Joining.{fill}
 use Rattle.branches.specs.Factors.{tagged}
 use Rattle.branches.proofs.Joining.{word-some, fill-nil, fill-first, written-is}
-use Rattle.normal.specs.Ways.{QueryRows, Lowest, Borne, bears, formAt}
-use Rattle.normal.proofs.Marks.{bears-src, bears-dst, count-find, tagged-rows}
+use Rattle.normal.specs.Ways.{QueryRows, Lowest, formAt}
+use Rattle.normal.proofs.Marks.{src-in, tagged-rows}
 use Rattle.normal.proofs.Around.{factors-rows}
 
 -- ------------------------------------------------------------------ the word of some factors, or of none
@@ -51,33 +49,15 @@ module _ {code mark kids span up : List ℕ} {n : ℕ} (Q : QueryRows code mark 
   unfolding treeRows shape brothers mapT
   form-empty e = rw e
 
-  -- some row is s, some row is d
-  pub borne-src : 0 < n → Borne mark 1 0 n
-  unfolding treeRows
-  borne-src z =
-      let e = Q .one-src z in
-      let (i, l, t) = count-find src (tagAt code mark) span 0 n (shape span n) (R .laid) (omega arith) in
-      record { row = i; low = omega arith; high = l; is = bears-src code mark i ∙ t }
-
-  pub borne-dst : 0 < n → Borne mark 2 0 n
-  unfolding treeRows
-  borne-dst z =
-      let e = Q .one-dst z in
-      let (i, l, t) = count-find dst (tagAt code mark) span 0 n (shape span n) (R .laid) (omega arith) in
-      record { row = i; low = omega arith; high = l; is = bears-dst code mark i (R .marked i l) ∙ t }
-
   normal-rows : (f : ℕ → Tag) → 0 < n → normal (mapT f (shape span n)) ≡ all (factors (mapT f (shape span n)) [])
   unfolding mapT
   normal-rows f l = rw (rows-top code mark kids span up n R l .shape-is)
 
-  module _ (s d : ℕ) (bs : (s < n) × (bears mark 1 s ≡ true)) (bd : (d < n) × (bears mark 2 d ≡ true)) (t : ℕ) (L : Lowest span s d t) where
+  module _ (ne : n ≡ 0 → ⊥) {s d t : ℕ} (fs : FirstRow mark 0 s) (fd : FirstRow mark 1 d) (L : Lowest span s d t) where
     pub form-word : Word ≡ wordOf (all (formAt code span s d t))
     form-word =
-        let z : 0 < n = omega (arith, bs .0) in
-        let T = tagged-rows R (Q .one-src z) (Q .one-dst z) s d (bs .0) (bd .0) (bs .1) (bd .1) in
-        let l : t < n = omega (arith, L .to-s .from, bs .0) in
-        ap (λ (F : Forest Tag). wordOf (normal F)) T
-        ∙ ap wordOf (normal-rows (tagged code s d) z ∙ ap all (factors-rows R s d t l L))
+        ap (λ (F : Forest Tag). wordOf (normal F)) (tagged-rows Q ne fs fd)
+        ∙ ap wordOf (normal-rows (tagged code s d) (omega arith) ∙ ap all (factors-rows R s d t (omega (arith, L .to-s .from, src-in Q ne fs)) L))
 
     module _ (from : ℕ) where
       pub form-fits : (m : ℕ) → from + length Word ≤ m → from + length (fill from from (formAt code span s d t)) ≤ m

@@ -7,22 +7,14 @@ use Prim.Native.Nat.{ℕ, suc, _+_, _≤_, _<_}
 use native.Mathlib.Decide.{ℕ-discrete}
 use native.Mathlib.Omega.{arith}
 use lib.ListN.{length, getD}
+use Rattle.meaning.specs.Limits.{mostNodes}
 use Rattle.meaning.specs.Tree.{Forest, bare, tree}
-use Rattle.rows.specs.Rows.{below, Holds, Rows}
+use Rattle.rows.specs.Rows.{covers, below, Holds, Rows}
 use Rattle.rows.proofs.Rows.{holds-first, Opens, row-opens, rows-top, row-up}
-use Rattle.branches.specs.Factors.{covers}
 use Rattle.branches.proofs.Covers.{covers-in}
-use Rattle.normal.specs.Ways.{Covers, Among, Part, Pair, Lowest, Borne, bears}
+use Rattle.normal.specs.Ways.{Covers, Among, Part, Pair, Lowest}
 use Rattle.normal.proofs.Walk.{row-open, up-among, up-least}
 use Rattle.normal.proofs.Around.{covers-true, unlike}
-
--- ------------------------------------------------------------------ the row that is marked
-pub borne-next : {mark : List ℕ} {bit u n : ℕ} → Borne mark bit u n → bears mark bit u ≡ false → Borne mark bit (u + 1) n
-borne-next {mark} {bit} {u} B e = record { row = B .row; low = go (ℕ-discrete u (B .row)); high = B .high; is = B .is }
-  where
-    go : Dec (u ≡ B .row) → u + 1 ≤ B .row
-    go (yes q) = absurd (unlike (sym (B .is) ∙ ap (bears mark bit) (sym q) ∙ e))
-    go (no q) = omega (arith, B .low)
 
 -- ------------------------------------------------------------------ the child that holds row x
 -- the brothers from row c up to the end of row u's part are children of row u, and x lies at or behind c
@@ -61,7 +53,7 @@ children-here {span} {u} {x} {c} A l = go (A .forest) (A .held) (A .inside)
           further = λ m. record { forest = r; held = z .2; inside = λ y a. i y (inr a); low = m };
         }
 
-pub part-bound : {span : List ℕ} {u : ℕ} (P : Part span u) → (u + getD span u 0 ≤ length span) × (u + getD span u 0 ≤ 256)
+pub part-bound : {span : List ℕ} {u : ℕ} (P : Part span u) → (u + getD span u 0 ≤ length span) × (u + getD span u 0 ≤ mostNodes)
 part-bound P = let o = part-open P .inside in (omega (arith, P .spans), omega (arith, P .few))
 
 -- ------------------------------------------------------------------ the parent

@@ -12,9 +12,9 @@ use borrow.Author.Tests.{eq-eqb, ne-eqb}
 use Rattle.meaning.specs.Expression.{Expr, child, parent}
 use Rattle.meaning.specs.Tree.{Forest, bare, tree, Tag, size}
 use Rattle.meaning.specs.Normal.{labelled, branch, onward, chains, inTree, srcIn, dstIn, eitherIn, off, ups, downs}
-use Rattle.rows.specs.Rows.{labOf, below, shape, mapT, Holds, Hung, noRow, Rows}
+use Rattle.rows.specs.Rows.{labOf, covers, below, shape, mapT, Holds, Hung, noRow, Rows}
 use Rattle.rows.proofs.Rows.{size-holds, holds-first, Opens, row-opens, rows-top, row-kids}
-use Rattle.branches.specs.Factors.{tagged, under, labelAt, covers, branchesAt, ownAt}
+use Rattle.branches.specs.Factors.{tagged, under, labelAt, branchesAt, ownAt}
 use Rattle.branches.proofs.Covers.{in-covers, src-covers, dst-covers, either-covers, covers-in, covers-before, covers-behind}
 use Rattle.branches.proofs.Chains.{labelled-append, chains-same}
 use Rattle.normal.specs.Ways.{Covers, Among, upsAt, downsAt, wayTo, wayAt}

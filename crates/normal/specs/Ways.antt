@@ -1,11 +1,12 @@
 -- The ways of a normal form over rows: which row is t, and the factors of each way.
 use mathlib.Core.Path.{_≡_}
 use mathlib.Core.Logic.{_⊎_}
-use mathlib.Core.Bool.{Bool, true, cond}
+use mathlib.Core.Bool.{cond}
 use mathlib.Core.List.{List, [], _∷_, _++_}
-use Prim.Native.Nat.{ℕ, _+_, _/_, _%_, _≤_, _<_}
+use Prim.Native.Nat.{ℕ, _+_, _≤_, _<_}
 use lib.ListN.{length, getD}
 use lib.Dec.{eqb}
+use Rattle.meaning.specs.Limits.{mostNodes}
 use Rattle.meaning.specs.Expression.{Expr, child}
 use Rattle.meaning.specs.Tree.{Forest, bare, tree, Tag}
 use Rattle.meaning.specs.Normal.{labelled, dstIn, off, ups, downs, aboveFactor}
@@ -33,7 +34,7 @@ pub record Covers (span : List ℕ) (u x : ℕ) : Type 0 where
 pub record Part (span : List ℕ) (u : ℕ) : Type 0 where
   pub n : ℕ
   pub laid : Holds span 0 n (shape span n)
-  pub few : n ≤ 256
+  pub few : n ≤ mostNodes
   pub spans : n ≤ length span
   pub within : u < n
 
@@ -65,17 +66,6 @@ pub record Lowest (span : List ℕ) (s d t : ℕ) : Type 0 where
   pub to-s : Covers span t s
   pub to-d : Covers span t d
   pub least : (v : ℕ) → Covers span v s → Covers span v d → v ≤ t
-
--- the mark of row u has s (bit 1) or d (bit 2): "mark (0 none, 1 s, 2 d, 3 both)"
-unfoldable pub bears : List ℕ → ℕ → ℕ → Bool
-bears mark bit u = eqb (getD mark u 0 / bit % 2) 1
-
--- some row from u up to n does
-pub record Borne (mark : List ℕ) (bit u n : ℕ) : Type 0 where
-  pub row : ℕ
-  pub low : u ≤ row
-  pub high : row < n
-  pub is : bears mark bit row ≡ true
 
 -- "for each node from s up to just below t, its own factors and then parent"
 unfoldable pub upsAt : List ℕ → List ℕ → ℕ → ℕ → List Expr

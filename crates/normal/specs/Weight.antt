@@ -6,8 +6,7 @@ use lib.ListN.{length, getD}
 use lib.Dec.{ltb, eqb}
 use Rattle.meaning.specs.Number.{num}
 use Rattle.meaning.specs.TreeQuery.{Lab, any, lab}
-use Rattle.rows.specs.Rows.{labOf}
-use Rattle.branches.specs.Factors.{covers}
+use Rattle.rows.specs.Rows.{labOf, covers}
 
 -- a label's sign and the sign that joins it; a wildcard has none
 unfoldable pub labWeight : Lab → ℕ

@@ -1,41 +1,18 @@
 // The normal form of rows in image order, written into the caller's room: up from s to t, the way above t, t's own factors, down to d.
 // The first factor of all goes to place `from` of the room, so a factor that goes to a later place is joined to what stands before it.
-use groups::Writer;
 ghost use mathlib.Core.Path.{_≡_};
-ghost use mathlib.Core.Bool.{true};
 ghost use mathlib.Core.List.{[]};
-ghost use Prim.Native.Nat.{_+_, _<_, _≤_};
-ghost use lib.ListN.{length, getD};
+ghost use Prim.Native.Nat.{suc, _+_, _<_, _≤_};
+ghost use lib.ListN.{length};
+ghost use Rattle.meaning.specs.Limits.{mostNodes};
+ghost use Rattle.meaning.specs.Number.{largestLabel};
 ghost use Rattle.meaning.specs.Normal.{normal, aboveFactor, wordOf};
 ghost use Rattle.rows.specs.Rows.{labOf, treeRows, below};
-ghost use Rattle.groups.specs.Put.{put, Written};
-ghost use Rattle.groups.specs.Filled.{filled};
+ghost use Rattle.groups.specs.Put.{Written};
 ghost use Rattle.branches.specs.Joining.{fill};
 ghost use Rattle.branches.specs.Factors.{Row};
-ghost use Rattle.normal.specs.Ways.{QueryRows, Unmarked, Covers, Part, Pair, Climb, Lowest, Among, Borne, bears, upsAt, downsAt, wayAt, formAt};
+ghost use Rattle.normal.specs.Ways.{QueryRows, Unmarked, Covers, Part, Pair, Climb, Lowest, Among, upsAt, downsAt, wayAt, formAt};
 ghost use Rattle.normal.specs.Weight.{labWeight, onWay, branching, rowWeight, rowsWeight};
-
-// The row that is s (bit 1), or d (bit 2).
-fn marked(mark: &[u8], n: usize, bit: u8) -> usize
-    requires { ⌜ (0 < bit) × (n ≤ length (now mark)) × Borne (now mark) bit 0 n ⌝ }
-    ensures { λ r. ⌜ (r < n) × (bears (now (mark .entry)) bit r ≡ true) ⌝ }
-{
-    let mut u: usize = 0;
-    loop {
-        if mark[u] / bit % 2 == 1 {
-            return u;
-        }
-        u += 1;
-    }
-}
-
-// The parent of row u.
-fn parent(up: &[u16], u: usize) -> usize
-    requires { ⌜ u < length (now up) ⌝ }
-    ensures { λ r. ⌜ r ≡ getD (now (up .entry)) u 0 ⌝ }
-{
-    up[u] as usize
-}
 
 // "Let t be the lowest node above or at both s and d": up from s to the first row that holds d.
 fn lowest(span: &[u16], up: &[u16], s: usize, d: usize) -> usize
@@ -44,10 +21,10 @@ fn lowest(span: &[u16], up: &[u16], s: usize, d: usize) -> usize
 {
     let mut t = s;
     loop {
-        if branches::holds(span, t, d) {
+        if rows::holds(span, t, d) {
             return t;
         }
-        t = parent(up, t);
+        t = rows::link(up, t);
     }
 }
 
@@ -58,7 +35,7 @@ fn child_to(span: &[u16], u: usize, x: usize) -> usize
 {
     let mut c = u + 1;
     loop {
-        let next = c + branches::span_at(span, c);
+        let next = c + rows::link(span, c);
         if x < next {
             return c;
         }
@@ -85,7 +62,7 @@ fn rise(
     while x != t {
         let end = branches::own(code, kids, span, x, s, s, room, from, at);
         at = branches::put_sign(room, from, end, 3);
-        x = parent(up, x);
+        x = rows::link(up, x);
     }
     at
 }
@@ -173,7 +150,7 @@ fn factors(
 }
 
 // The normal form of n rows, written from place `at` on; no rows are empty, the word 0. "With no factor at all the word is 1."
-fn put_form(
+pub fn put_form(
     room: &mut [u8],
     at: usize,
     code: &[u32],
@@ -189,8 +166,8 @@ fn put_form(
     if n == 0 {
         return groups::put_byte(room, at, 0);
     }
-    let s = marked(mark, n, 1);
-    let d = marked(mark, n, 2);
+    let s = rows::row_of(mark, rows::S);
+    let d = rows::row_of(mark, rows::D);
     let t = lowest(span, up, s, d);
     let end = factors(code, kids, span, up, s, d, t, room, at);
     if end == at {
@@ -199,47 +176,9 @@ fn put_form(
     end
 }
 
-// The normal form of n rows, written behind what the writer has.
-fn form_on<'s, 'a>(
-    w: &'s mut Writer<'a>,
-    code: &[u32],
-    mark: &[u8],
-    kids: &[u16],
-    span: &[u16],
-    up: &[u16],
-    n: usize,
-)
-    requires { ⌜ QueryRows (now code) (now mark) (now kids) (now span) (now up) n × (now w .length + length (wordOf (normal (treeRows (now code) (now mark) (now span) n))) ≤ length (now (now w .room))) ⌝ }
-    ensures { λ _. ⌜ now (w .exit) ≡ filled (now (w .entry)) (wordOf (normal (treeRows (now (code .entry)) (now (mark .entry)) (now (span .entry)) n))) ⌝ }
-{
-    let at = w.length;
-    let end = put_form(&mut *w.room, at, code, mark, kids, span, up, n);
-    w.length = end;
-}
-
-// The normal form of n rows, written into the front of the room.
-pub fn write_form(
-    code: &[u32],
-    mark: &[u8],
-    kids: &[u16],
-    span: &[u16],
-    up: &[u16],
-    n: usize,
-    room: &mut [u8],
-) -> usize
-    requires { ⌜ QueryRows (now code) (now mark) (now kids) (now span) (now up) n ⌝ }
-    requires { ⌜ length (wordOf (normal (treeRows (now code) (now mark) (now span) n))) ≤ length (now room) ⌝ }
-    ensures { λ r. ⌜ r ≡ length (wordOf (normal (treeRows (now (code .entry)) (now (mark .entry)) (now (span .entry)) n))) ⌝ }
-    ensures { λ _. ⌜ now (room .exit) ≡ put (now (room .entry)) 0 (wordOf (normal (treeRows (now (code .entry)) (now (mark .entry)) (now (span .entry)) n))) ⌝ }
-{
-    let mut w = Writer { room, length: 0 };
-    form_on(&mut w, code, mark, kids, span, up, n);
-    w.length
-}
-
 // A label's sign and the sign that joins it; a wildcard has none.
 fn label_weight(x: u32) -> usize
-    requires { ⌜ x ≤ 65536 ⌝ }
+    requires { ⌜ x ≤ suc largestLabel ⌝ }
     ensures { λ r. ⌜ (r ≡ labWeight (labOf x)) × (r ≤ 4) ⌝ }
 {
     if x == 0 {
@@ -250,18 +189,18 @@ fn label_weight(x: u32) -> usize
 
 // Row c is on the way to s or to d.
 fn on_way(span: &[u16], s: usize, d: usize, c: usize) -> bool
-    requires { ⌜ (c < length (now span)) × (c < 256) ⌝ }
+    requires { ⌜ (c < length (now span)) × (c < mostNodes) ⌝ }
     ensures { λ r. ⌜ r ≡ onWay (now (span .entry)) s d c ⌝ }
 {
-    if branches::holds(span, c, s) {
+    if rows::holds(span, c, s) {
         return true;
     }
-    branches::holds(span, c, d)
+    rows::holds(span, c, d)
 }
 
 // The children of row p that are off the ways are branches of their own.
 fn branches_at(kids: &[u16], span: &[u16], s: usize, d: usize, p: usize) -> bool
-    requires { ⌜ (p < length (now kids)) × (p < length (now span)) × (p < 256) ⌝ }
+    requires { ⌜ (p < length (now kids)) × (p < length (now span)) × (p < mostNodes) ⌝ }
     ensures { λ r. ⌜ r ≡ branching (now (kids .entry)) (now (span .entry)) s d p ⌝ }
 {
     if on_way(span, s, d, p) {
@@ -290,7 +229,7 @@ fn row_weight(
     if on_way(span, s, d, u) {
         return own + 2;
     }
-    if branches_at(kids, span, s, d, parent(up, u)) {
+    if branches_at(kids, span, s, d, rows::link(up, u)) {
         return own + 3;
     }
     own + 2
@@ -332,8 +271,8 @@ pub fn form_length(
     if n == 0 {
         return 1;
     }
-    let s = marked(mark, n, 1);
-    let d = marked(mark, n, 2);
+    let s = rows::row_of(mark, rows::S);
+    let d = rows::row_of(mark, rows::D);
     let t = lowest(span, up, s, d);
     let weight = rows_weight(code, kids, span, up, s, d, n);
     if t != 0 {

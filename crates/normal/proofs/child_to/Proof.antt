@@ -22,37 +22,37 @@ loop-holds c =
     let s = c .before in
     children-start (s .pre .0) (s .pre .1)
 
-span-at-requires : tie.Need-span-at-requires Inv-loop μ-loop
-span-at-requires c κs =
+link-requires : tie.Need-link-requires Inv-loop μ-loop
+link-requires c κs =
     let s = c .before .before in
     let b = part-bound (s .pre .0) in omega (arith, c .loop .inv .low, s .pre .2 .to, b .0)
 
 add-next : tie.Need-add-next Inv-loop μ-loop
 add-next c =
     let s = c .before .before .before in
-    let b = part-bound (s .pre .0) in let z = c .span-at .ensures .1 in omega (arith, c .before .loop .inv .low, s .pre .2 .to, b .1)
+    let b = part-bound (s .pre .0) in let z = c .link .ensures .1 in omega (arith, c .before .loop .inv .low, s .pre .2 .to, b .1)
 
 returns : tie.Need-returns Inv-loop μ-loop
 returns c =
     let s = c .before .before .before .before in
     let l = c .before .before .loop in
     let h = children-here (l .inv) (s .pre .2 .to) in
-    (h .among, record { from = l .inv .low; to = omega (arith, c .if1 .taken, c .before .span-at .ensures .0) })
+    (h .among, record { from = l .inv .low; to = omega (arith, c .if1 .taken, c .before .link .ensures .0) })
 
 loop-less : tie.Need-loop-less Inv-loop μ-loop
 loop-less c =
     let s = c .before .before .before .before in
     let l = c .before .before .loop in
     let h = children-here (l .inv) (s .pre .2 .to) in
-    omega (arith, h .some, h .ends, c .before .span-at .ensures .0)
+    omega (arith, h .some, h .ends, c .before .link .ensures .0)
 
 loop-again : tie.Need-loop-again Inv-loop μ-loop
 loop-again c =
     let s = c .before .before .before .before in
     let l = c .before .before .loop in
-    let span-at = c .before .span-at in
+    let link = c .before .link in
     let h = children-here (l .inv) (s .pre .2 .to) in
-    rw (span-at .ensures .0) (h .further (omega (arith, c .if1 .left, span-at .ensures .0)))
+    rw (link .ensures .0) (h .further (omega (arith, c .if1 .left, link .ensures .0)))
 
 pub child-to-spec : {M : Type 1} → statement M
 child-to-spec =
@@ -62,7 +62,7 @@ child-to-spec =
     μ-loop
     add-c
     loop-holds
-    span-at-requires
+    link-requires
     add-next
     returns
     loop-less

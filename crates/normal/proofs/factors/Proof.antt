@@ -1,5 +1,4 @@
 -- The four parts of the factors, one after the other.
-use native.Mathlib.Omega.{arith}
 use Rattle.normal.proofs.Writing.{climb-row, ups-fits, above-fits, met, own-fits, owned, downs-fits, form-done}
 use borrow.Author.Needs.{needs}
 use Rattle.normal.proofs.factors.Statement.{statement}

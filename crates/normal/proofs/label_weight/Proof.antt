@@ -1,5 +1,5 @@
 -- A wildcard has no sign; code L + 1 is the sign 9 + L, of at most three bytes.
-use mathlib.Core.Path.{sym, _∙_}
+use mathlib.Core.Path.{sym}
 use Prim.Native.Nat.{_+_}
 use native.Mathlib.Omega.{arith}
 use borrow.Author.Needs.{needs}

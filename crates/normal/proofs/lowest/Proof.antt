@@ -27,8 +27,8 @@ returns c =
     let l = c .before .before .loop in
     lowest-done (s .pre) (l .inv) (sym (c .before .holds .ensures) ∙ c .if1 .taken)
 
-parent-requires : tie.Need-parent-requires Inv-loop μ-loop
-parent-requires c κs =
+link-requires : tie.Need-link-requires Inv-loop μ-loop
+link-requires c κs =
     let s = c .before .before .before .before .before in
     let l = c .before .before .loop in
     let b = lowest-bound (s .pre) (l .inv) in omega (arith, b, s .pre .rows .ups)
@@ -38,14 +38,14 @@ loop-less c =
     let s = c .before .before .before .before .before .before in
     let l = c .before .before .before .loop in
     let holds = c .before .before .holds in
-    let l = lowest-less (s .pre) (l .inv) (sym (holds .ensures) ∙ c .before .if1 .left) in omega (arith, c .parent .ensures)
+    let l = lowest-less (s .pre) (l .inv) (sym (holds .ensures) ∙ c .before .if1 .left) in omega (arith, c .link .ensures .0)
 
 loop-again : tie.Need-loop-again Inv-loop μ-loop
 loop-again c =
     let s = c .before .before .before .before .before .before in
     let l = c .before .before .before .loop in
     let holds = c .before .before .holds in
-    rw (c .parent .ensures) (lowest-next (s .pre) (l .inv) (sym (holds .ensures) ∙ c .before .if1 .left))
+    rw (c .link .ensures .0) (lowest-next (s .pre) (l .inv) (sym (holds .ensures) ∙ c .before .if1 .left))
 
 pub lowest-spec : {M : Type 1} → statement M
 lowest-spec =
@@ -56,6 +56,6 @@ lowest-spec =
     loop-holds
     holds-requires
     returns
-    parent-requires
+    link-requires
     loop-less
     loop-again)

@@ -4,7 +4,8 @@ use mathlib.Core.List.{[], _∷_}
 use native.Mathlib.Omega.{arith}
 use lib.ListN.{length}
 use Rattle.groups.specs.Put.{put}
-use Rattle.normal.proofs.Form.{form-empty, borne-src, borne-dst, form-fits, form-some, form-none}
+use Rattle.normal.proofs.Form.{form-empty, form-fits, form-some, form-none}
+use Rattle.normal.proofs.Marks.{borne-src, borne-dst, src-in, dst-in}
 use borrow.Author.Needs.{needs}
 use Rattle.normal.proofs.put_form.Statement.{statement}
 use Rattle.normal.proofs.put_form.Tie as tie
@@ -22,71 +23,76 @@ returns c =
     let e = form-empty (s .pre .0) (if1 .taken) in
     record { place = omega (arith, put-byte .ensures .0, ap length e); bytes = put-byte .ensures .1 ∙ ap (put _ _) (sym e) }
 
-marked-requires : tie.Need-marked-requires
-marked-requires c κs =
+row-of-requires : tie.Need-row-of-requires
+row-of-requires c κs =
     let s = c .before .before .before .before .before .before .before in
-    (omega arith, s .pre .0 .rows .marks, borne-src (s .pre .0) (omega (arith, c .if1 .left)))
+    (omega arith, borne-src (s .pre .0) (c .if1 .left))
 
-marked-requires-2 : tie.Need-marked-requires-2
-marked-requires-2 c κs =
+row-of-requires-2 : tie.Need-row-of-requires-2
+row-of-requires-2 c κs =
     let s = c .before .before .before .before .before .before .before .before in
-    (omega arith, s .pre .0 .rows .marks, borne-dst (s .pre .0) (omega (arith, c .before .if1 .left)))
+    (omega arith, borne-dst (s .pre .0) (c .before .if1 .left))
 
 lowest-requires : tie.Need-lowest-requires
 lowest-requires c κs =
     let s = c .before .before .before .before .before .before .before .before .before in
+    let ne = c .before .before .if1 .left in
     record {
       code = s .args .code .now;
       mark = s .args .mark .now;
       kids = s .args .kids .now;
       n = s .args .n;
       rows = s .pre .0 .rows;
-      s-in = c .before .marked .ensures .0;
-      d-in = c .marked2 .ensures .0;
+      s-in = src-in (s .pre .0) ne (c .before .row-of .ensures);
+      d-in = dst-in (s .pre .0) ne (c .row-of2 .ensures);
     }
 
 factors-requires : tie.Need-factors-requires
 factors-requires c κs =
     let s = c .before .before .before .before .before .before .before .before .before .before .before in
-    let marked = c .before .before .before .marked in
-    let marked2 = c .before .before .marked2 in
+    let ne = c .before .before .before .before .if1 .left in
+    let row-of = c .before .before .before .row-of in
+    let row-of2 = c .before .before .row-of2 in
     let lowest = c .before .lowest in
     let (Q, f) = s .pre in (
-      record { mark = s .args .mark .now; n = s .args .n; rows = Q .rows; within = marked .ensures .0; covers = lowest .ensures .to-s },
+      record { mark = s .args .mark .now; n = s .args .n; rows = Q .rows; within = src-in Q ne (row-of .ensures); covers = lowest .ensures .to-s },
       lowest .ensures .to-d,
-      form-fits Q _ _ (marked .ensures) (marked2 .ensures) _ (lowest .ensures) _ _ f,
+      form-fits Q ne (row-of .ensures) (row-of2 .ensures) (lowest .ensures) _ _ f,
     )
 
 put-byte-requires-2 : tie.Need-put-byte-requires-2
 put-byte-requires-2 c κs =
     let s = c .before .before .before .before .before .before .before .before .before .before .before .before .before .before .before .before in
-    let marked = c .before .before .before .before .before .before .before .before .marked in
-    let marked2 = c .before .before .before .before .before .before .before .marked2 in
+    let ne = c .before .before .before .before .before .before .before .before .before .if1 .left in
+    let row-of = c .before .before .before .before .before .before .before .before .row-of in
+    let row-of2 = c .before .before .before .before .before .before .before .row-of2 in
     let lowest = c .before .before .before .before .before .before .lowest in
     let factors = c .before .before .before .before .factors in
-    let (e, k) = form-none (s .pre .0) _ _ (marked .ensures) (marked2 .ensures) _ (lowest .ensures) _ (factors .ensures) (c .before .if2 .taken) in
+    let (e, k) = form-none (s .pre .0) ne (row-of .ensures) (row-of2 .ensures) (lowest .ensures) _ (factors .ensures) (c .before .if2 .taken) in
     omega (arith, s .pre .1, ap length e, ap length k)
 
 returns-2 : tie.Need-returns-2
 returns-2 c =
     let s = c .before .before .before .before .before .before .before .before .before .before .before .before .before .before .before .before .before .before .before in
-    let marked = c .before .before .before .before .before .before .before .before .before .before .before .marked in
-    let marked2 = c .before .before .before .before .before .before .before .before .before .before .marked2 in
+    let ne = c .before .before .before .before .before .before .before .before .before .before .before .before .if1 .left in
+    let row-of = c .before .before .before .before .before .before .before .before .before .before .before .row-of in
+    let row-of2 = c .before .before .before .before .before .before .before .before .before .before .row-of2 in
     let lowest = c .before .before .before .before .before .before .before .before .before .lowest in
     let factors = c .before .before .before .before .before .before .before .factors in
     let if2 = c .before .before .before .before .if2 in
     let put-byte2 = c .before .before .put-byte2 in
-    let (e, k) = form-none (s .pre .0) _ _ (marked .ensures) (marked2 .ensures) _ (lowest .ensures) _ (factors .ensures) (if2 .taken) in
+    let (e, k) = form-none (s .pre .0) ne (row-of .ensures) (row-of2 .ensures) (lowest .ensures) _ (factors .ensures) (if2 .taken) in
     record { place = omega (arith, put-byte2 .ensures .0, ap length e); bytes = put-byte2 .ensures .1 ∙ ap (λ d. put d (s .args .at) (1 ∷ [])) k ∙ ap (put _ _) (sym e) }
 
 returns-3 : tie.Need-returns-3
 returns-3 c =
     let s = c .before .before .before .before .before .before .before .before .before .before .before .before .before .before .before in
-    let marked = c .before .before .before .before .before .before .before .marked in
-    let marked2 = c .before .before .before .before .before .before .marked2 in
+    let ne = c .before .before .before .before .before .before .before .before .if1 .left in
+    let row-of = c .before .before .before .before .before .before .before .row-of in
+    let row-of2 = c .before .before .before .before .before .before .row-of2 in
     let lowest = c .before .before .before .before .before .lowest in
     let factors = c .before .before .before .factors in
-    form-some (s .pre .0) _ _ (marked .ensures) (marked2 .ensures) _ (lowest .ensures) _ (factors .ensures) (c .if2 .left)
+    form-some (s .pre .0) ne (row-of .ensures) (row-of2 .ensures) (lowest .ensures) _ (factors .ensures) (c .if2 .left)
 
 pub put-form-spec : {M : Type 1} → statement M
 put-form-spec =
@@ -95,8 +101,8 @@ put-form-spec =
     put-byte-requires
     (λ c. search needs)
     returns
-    marked-requires
-    marked-requires-2
+    row-of-requires
+    row-of-requires-2
     lowest-requires
     factors-requires
     put-byte-requires-2

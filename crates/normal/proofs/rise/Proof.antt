@@ -37,8 +37,8 @@ put-sign-requires c κs =
     let (tx, v, w) = l .inv in
     rise-parent (s .pre .0) (l .x) tx v (test .taken) _ w (s .pre .1) (own .ensures)
 
-parent-requires : tie.Need-parent-requires Inv-loop μ-loop
-parent-requires c κs =
+link-requires : tie.Need-link-requires Inv-loop μ-loop
+link-requires c κs =
     let s = c .before .before .before .before .before .before .before .before .before .before .before .before .before .before .before in
     let l = c .before .before .before .before .before .before .before .before .before .loop in
     let v = l .inv .1 in omega (arith, v .from, s .pre .0 .within, s .pre .0 .rows .ups)
@@ -49,7 +49,7 @@ loop-less c =
     let l = c .before .before .before .before .before .before .before .before .before .before .loop in
     let test = c .before .before .before .before .before .before .before .before .before .loop-test in
     let (tx, v, w) = l .inv in
-    let l = rise-less (s .pre .0) (l .x) tx v (test .taken) in omega (arith, c .parent .ensures)
+    let l = rise-less (s .pre .0) (l .x) tx v (test .taken) in omega (arith, c .link .ensures .0)
 
 loop-again : tie.Need-loop-again Inv-loop μ-loop
 loop-again c =
@@ -61,7 +61,7 @@ loop-again c =
     let (tx, v, w) = l .inv in
     let C = s .pre .0 in
     let ne = test .taken in
-    rw (c .parent .ensures) (
+    rw (c .link .ensures .0) (
       rise-from C (l .x) tx v ne,
       rise-covers C (l .x) tx v ne,
       rise-next C (l .x) tx v ne _ w (own .ensures) (put-sign .ensures),
@@ -82,7 +82,7 @@ rise-spec =
     loop-holds
     own-requires
     put-sign-requires
-    parent-requires
+    link-requires
     loop-less
     loop-again
     same-length

@@ -2,7 +2,6 @@
 use mathlib.Core.Path.{sym, ap, _∙_}
 use Prim.Native.Nat.{ℕ, _+_}
 use native.Mathlib.Omega.{arith}
-use borrow.Author.Needs.{needs}
 use Rattle.rows.proofs.Rows.{row-up}
 use Rattle.normal.proofs.Counting.{row-top, row-way, row-branch, row-chain}
 use Rattle.normal.proofs.row_weight.Statement.{statement}
@@ -36,8 +35,8 @@ returns-2 c =
     let way = sym (c .before .on-way .ensures) ∙ c .if2 .taken in
     (ap (λ (m : ℕ). m + 2) (label .0) ∙ sym (row-way _ _ _ _ _ _ _ (c .before .before .if1 .left) way), omega (arith, label .1))
 
-parent-requires : tie.Need-parent-requires
-parent-requires c κs =
+link-requires : tie.Need-link-requires
+link-requires c κs =
     let s = c .before .before .before .before .before .before .before .before .before in
     omega (arith, s .pre .within, s .pre .rows .ups)
 
@@ -46,7 +45,7 @@ branches-at-requires c κs =
     let s = c .before .before .before .before .before .before .before .before .before .before in
     let R = s .pre .rows in
     let up = row-up _ _ _ _ _ _ R (s .args .u) (omega (arith, c .before .before .before .if1 .left)) (s .pre .within) .0 in
-    let e = c .parent .ensures in
+    let e = c .link .ensures .0 in
     (omega (arith, s .pre .within, R .counts), omega (arith, s .pre .within, R .spans), omega (arith, s .pre .within, R .few))
 
 add-result-2 : tie.Need-add-result-2
@@ -58,7 +57,7 @@ returns-3 c =
     let off = sym (c .before .before .before .before .on-way .ensures) ∙ c .before .before .before .if2 .left in
     let ne = c .before .before .before .before .before .if1 .left in
     let at = sym (c .before .branches-at .ensures) ∙ c .if3 .taken in
-    (ap (λ (m : ℕ). m + 3) (label .0) ∙ sym (row-branch _ _ _ _ _ _ _ ne off _ (c .before .before .parent .ensures) at), omega (arith, label .1))
+    (ap (λ (m : ℕ). m + 3) (label .0) ∙ sym (row-branch _ _ _ _ _ _ _ ne off _ (c .before .before .link .ensures .0) at), omega (arith, label .1))
 
 add-result-3 : tie.Need-add-result-3
 add-result-3 c = omega (arith, c .before .before .before .before .before .before .label-weight .ensures .1)
@@ -69,7 +68,7 @@ returns-4 c =
     let off = sym (c .before .before .before .before .on-way .ensures) ∙ c .before .before .before .if2 .left in
     let ne = c .before .before .before .before .before .if1 .left in
     let at = sym (c .before .branches-at .ensures) ∙ c .if3 .left in
-    (ap (λ (m : ℕ). m + 2) (label .0) ∙ sym (row-chain _ _ _ _ _ _ _ ne off _ (c .before .before .parent .ensures) at), omega (arith, label .1))
+    (ap (λ (m : ℕ). m + 2) (label .0) ∙ sym (row-chain _ _ _ _ _ _ _ ne off _ (c .before .before .link .ensures .0) at), omega (arith, label .1))
 
 pub row-weight-spec : {M : Type 1} → statement M
 row-weight-spec =
@@ -82,7 +81,7 @@ row-weight-spec =
     on-way-requires
     add-result
     returns-2
-    parent-requires
+    link-requires
     branches-at-requires
     add-result-2
     returns-3
