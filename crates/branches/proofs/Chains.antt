@@ -11,7 +11,7 @@ use Rattle.meaning.specs.TreeQuery.{Lab, any, lab}
 use Rattle.meaning.specs.Tree.{Forest, bare, tree, Tag}
 use Rattle.meaning.specs.Number.{num}
 use Rattle.meaning.specs.Normal.{labelled, branch, onward, chains, eitherIn, off, wordOf}
-use Rattle.rows.specs.Rows.{labOf, covers, below, mapT, Holds, width}
+use Rattle.rows.specs.Rows.{covers, labOf, below, mapT, Holds, width}
 use Rattle.rows.proofs.Rows.{size-holds, holds-first, holds-opens, row-opens, row-kids, Opens}
 use Rattle.groups.specs.Put.{Written}
 use Rattle.branches.specs.Joining.{joint, fill, factor}
