@@ -12,7 +12,7 @@ use Rattle.meaning.specs.Expression.{Expr, child, parent}
 use Rattle.meaning.specs.Tree.{Forest, bare, tree, Tag, size}
 use Rattle.meaning.specs.Normal.{srcIn, dstIn, bothIn, eitherIn, someTree, ups, downs, aboveFactor, around, factors}
 use Rattle.rows.specs.Rows.{covers, below, shape, mapT, Holds, Rows}
-use Rattle.rows.proofs.Rows.{size-holds, holds-first, holds-opens, rows-top}
+use Rattle.rows.proofs.Rows.{size-holds, holds-first, rows-top, row-inside}
 use Rattle.branches.specs.Factors.{tagged, under, ownAt}
 use Rattle.branches.proofs.Covers.{src-covers, dst-covers, either-covers, both-covers, covers-in, covers-before, covers-behind}
 use Rattle.theory.proofs.Look.{never}
@@ -34,13 +34,8 @@ unlike e = never cc
 
 module _ {code mark kids span up : List ℕ} {n : ℕ} (R : Rows code mark kids span up n) where
   covers-trans : (c t x : ℕ) → c < n → Covers span c t → Covers span t x → Covers span c x
-  covers-trans c t x l v w = record { from = omega (arith, v .from, w .from); to = go (ℕ-discrete c t) }
-    where
-      go : Dec (c ≡ t) → x < c + getD span c 0
-      go (yes q) = rw q (w .to)
-      go (no q) =
-          let o = holds-opens span (suc c) (c + getD span c 0) (below span c) (row-open R c l .held) t (omega (arith, v .from)) (v .to) in
-          omega (arith, o .inside, w .to)
+  covers-trans c t x l v w =
+      record { from = omega (arith, v .from, w .from); to = omega (arith, row-inside R c t l (v .from) (v .to), w .to) }
 
   module _ (s d t : ℕ) (L : Lowest span s d t) where
     both-row : (c : ℕ) → c < n → bothIn (tagged code s d c) (under code span s d c) ≡ covers span c t

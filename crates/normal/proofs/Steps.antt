@@ -10,10 +10,10 @@ use lib.ListN.{length, getD}
 use Rattle.meaning.specs.Limits.{mostNodes}
 use Rattle.meaning.specs.Tree.{Forest, bare, tree}
 use Rattle.rows.specs.Rows.{covers, below, Holds, Rows}
-use Rattle.rows.proofs.Rows.{holds-first, Opens, row-opens, rows-top, row-up}
+use Rattle.rows.proofs.Rows.{holds-first, Opens, row-opens, rows-top, row-up, row-least}
 use Rattle.branches.proofs.Covers.{covers-in}
 use Rattle.normal.specs.Ways.{Covers, Among, Part, Pair, Lowest}
-use Rattle.normal.proofs.Walk.{row-open, up-among, up-least}
+use Rattle.normal.proofs.Walk.{row-open, up-among}
 use Rattle.normal.proofs.Around.{covers-true, unlike}
 
 -- ------------------------------------------------------------------ the child that holds row x
@@ -76,7 +76,7 @@ module _ {code mark kids span up : List ℕ} {n : ℕ} (R : Rows code mark kids 
 
     -- a row that stands before x and holds s is not below x's parent
     pub parent-least : (u : ℕ) → Covers span u s → u < x → u ≤ getD up x 0
-    parent-least u w l = up-least R u x l (omega (arith, v .from, w .to)) (omega (arith, w .from))
+    parent-least u w l = row-least R u x (omega (arith, w .from)) l (omega (arith, v .from, w .to))
 
 -- ------------------------------------------------------------------ the lowest row
 -- row t is above or at s, and the lowest row that holds s and d is not below it

@@ -13,7 +13,7 @@ use Rattle.meaning.specs.Expression.{Expr, child, parent}
 use Rattle.meaning.specs.Tree.{Forest, bare, tree, Tag, size}
 use Rattle.meaning.specs.Normal.{labelled, branch, onward, chains, inTree, srcIn, dstIn, eitherIn, off, ups, downs}
 use Rattle.rows.specs.Rows.{labOf, covers, below, shape, mapT, Holds, Hung, noRow, Rows}
-use Rattle.rows.proofs.Rows.{size-holds, holds-first, Opens, row-opens, rows-top, row-kids}
+use Rattle.rows.proofs.Rows.{size-holds, holds-first, Opens, row-opens, rows-top}
 use Rattle.branches.specs.Factors.{tagged, under, labelAt, branchesAt, ownAt}
 use Rattle.branches.proofs.Covers.{in-covers, src-covers, dst-covers, either-covers, covers-in, covers-before, covers-behind}
 use Rattle.branches.proofs.Chains.{labelled-append, chains-same}
@@ -116,16 +116,6 @@ module _ {code mark kids span up : List ℕ} {n : ℕ} (R : Rows code mark kids 
       go : ((getD up c 0 ≡ noRow) × Among c (shape span n)) ⊎ ((0 ≤ getD up c 0) × Among c (below span (getD up c 0))) → Among c (below span (getD up c 0))
       go (inl (q, a)) = top (rw (rows-top code mark kids span up n R (omega arith) .shape-is) at a)
       go (inr (q, a)) = a
-
-  -- what holds a row holds its parent, unless it is the row itself
-  pub up-least : (v c : ℕ) → v < c → c < v + getD span v 0 → v < n → v ≤ getD up c 0
-  up-least v c l m b =
-      let K = row-kids code mark kids span up n R v b .1 in
-      go (K .forest) (among-up span up v (suc v) (v + getD span v 0) (K .forest) (K .held) (K .hung) c l m)
-    where
-      go : (F : Forest ℕ) → ((getD up c 0 ≡ v) × Among c F) ⊎ ((suc v ≤ getD up c 0) × Among c (below span (getD up c 0))) → v ≤ getD up c 0
-      go F (inl (q, a)) = omega arith
-      go F (inr (q, a)) = omega arith
 
   -- ------------------------------------------------------------------ a node's own factors, by any way of telling who is on the way
   module _ (p : Tag → Forest Tag → Bool) (s d x y : ℕ)
