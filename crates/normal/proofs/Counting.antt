@@ -16,13 +16,14 @@ use Rattle.rows.specs.Rows.{labOf, FirstRow, covers, below, shape, mapT, treeRo
 use Rattle.rows.proofs.Rows.{size-holds, holds-first, rows-top, width-mapT}
 use Rattle.branches.specs.Factors.{tagged, under}
 use Rattle.branches.proofs.Covers.{either-covers, covers-in}
-use Rattle.normal.specs.Ways.{QueryRows, Lowest, formAt}
-use Rattle.normal.specs.Weight.{labWeight, onWay, branching, rowWeight, rowsWeight}
-use Rattle.normal.proofs.Weight.{several, weigh, factors-weigh, word-weigh}
-use Rattle.normal.proofs.Walk.{row-open}
+use Rattle.ways.specs.Ways.{Lowest}
+use Rattle.normal.specs.Forms.{QueryRows, formAt}
+use Rattle.normal.specs.Weights.{labWeight, onWay, branching, rowWeight, rowsWeight}
+use Rattle.normal.proofs.Weights.{several, weigh, factors-weigh, word-weigh}
+use Rattle.ways.proofs.Walk.{row-open}
 use Rattle.normal.proofs.Marks.{src-in, tagged-rows}
 use Rattle.normal.proofs.Around.{some-none, some-here, factors-rows}
-use Rattle.normal.proofs.Form.{form-word}
+use Rattle.normal.proofs.Forms.{form-word}
 
 several-width : (k : Forest Tag) → several k ≡ ltb 1 (width k)
 several-width bare = refl

@@ -9,7 +9,7 @@ use Rattle.rows.specs.Rows.{tagAt, Borne, FirstRow, Single, shape, mapT, treeRo
 use Rattle.rows.proofs.Rows.{size-holds}
 use Rattle.rows.proofs.Marks.{single-row, single-borne, single-first}
 use Rattle.branches.specs.Factors.{tagged}
-use Rattle.normal.specs.Ways.{QueryRows}
+use Rattle.normal.specs.Forms.{QueryRows}
 
 mapT-same : (f g : ℕ → Tag) (span : List ℕ) (u e : ℕ) (F : Forest ℕ) → Holds span u e F → ((i : ℕ) → i < e → f i ≡ g i) → mapT f F ≡ mapT g F
 unfolding mapT
