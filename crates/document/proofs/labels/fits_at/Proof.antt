@@ -8,7 +8,9 @@ returns : tie.Need-returns
 returns c = fit-any (c .before .args .code) (c .before .args .labels .now) (c .before .args .x) (c .before .pre) (c .if1 .taken)
 
 returns-2 : tie.Need-returns-2
-returns-2 c = fit-code (c .before .before .args .code) (c .before .before .args .labels .now) (c .before .before .args .x) (c .before .before .pre) (c .before .if1 .left)
+returns-2 c =
+    let s = c .before .before in
+    fit-code (s .args .code) (s .args .labels .now) (s .args .x) (s .pre) (c .before .if1 .left)
 
 pub fits-at-spec : {M : Type 1} → statement M
 fits-at-spec =

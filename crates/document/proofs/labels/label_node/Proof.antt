@@ -8,10 +8,14 @@ use Rattle.document.proofs.labels.label_node.Statement.{statement}
 use Rattle.document.proofs.labels.label_node.Tie as tie
 
 returns : tie.Need-returns
-returns c = (c .before .before .set-bit .ensures .only, row-node-on _ _ (Suits (c .before .before .before .before .before .before .before .before .args .code) (c .before .before .before .before .before .before .before .before .args .labels .now)) _ _ (c .before .before .before .before .before .before .before .before .pre .1) (c .before .before .before .before .before .fits-at .ensures .0 (c .before .before .before .before .if1 .taken)) (c .before .before .set-bit .ensures) (c .before .before .before .before .before .before .before .before .pre .4))
+returns c =
+    let s = c .before .before .before .before .before .before .before .before in
+    (c .before .before .set-bit .ensures .only, row-node-on _ _ (Suits (s .args .code) (s .args .labels .now)) _ _ (s .pre .1) (c .before .before .before .before .before .fits-at .ensures .0 (c .before .before .before .before .if1 .taken)) (c .before .before .set-bit .ensures) (s .pre .4))
 
 returns-2 : tie.Need-returns-2
-returns-2 c = (only-refl _ _, row-node-off _ _ (Suits (c .before .before .before .before .args .code) (c .before .before .before .before .args .labels .now)) _ (c .before .before .before .before .pre .1) (λ p. true-false (sym (c .before .fits-at .ensures .1 p) ∙ c .if1 .left)) (c .before .before .before .before .pre .4))
+returns-2 c =
+    let s = c .before .before .before .before in
+    (only-refl _ _, row-node-off _ _ (Suits (s .args .code) (s .args .labels .now)) _ (s .pre .1) (λ p. true-false (sym (c .before .fits-at .ensures .1 p) ∙ c .if1 .left)) (s .pre .4))
 
 pub label-node-spec : {M : Type 1} → statement M
 label-node-spec =

@@ -20,7 +20,9 @@ loop-holds : tie.Need-loop-holds Inv-loop μ-loop
 loop-holds c = (c .before .before .pre .3, only-refl _ _, c .before .before .pre .4)
 
 label-node-requires : tie.Need-label-node-requires Inv-loop μ-loop
-label-node-requires c κs = (c .before .before .before .before .before .pre .0, omega (arith, c .before .before .before .before .before .pre .2), omega (arith, c .before .before .before .before .before .pre .1, c .before .before .loop .inv .1 .same), c .before .loop-test .taken, c .before .before .loop .inv .2)
+label-node-requires c κs =
+    let s = c .before .before .before .before .before in
+    (s .pre .0, omega (arith, s .pre .2), omega (arith, s .pre .1, c .before .before .loop .inv .1 .same), c .before .loop-test .taken, c .before .before .loop .inv .2)
 
 loop-again : tie.Need-loop-again Inv-loop μ-loop
 loop-again c = (omega arith, only-then _ _ _ _ (c .before .before .before .before .before .loop .inv .1) (c .before .before .label-node .ensures .0), c .before .before .label-node .ensures .1)
@@ -29,7 +31,9 @@ same-length : tie.Need-same-length Inv-loop μ-loop
 same-length c = c .before .loop .inv .1 .same
 
 returns : tie.Need-returns Inv-loop μ-loop
-returns c = row-all _ _ (c .before .before .before .before .args .code) (c .before .before .before .before .args .labels .now) (c .before .loop .v) _ (omega arith) (c .before .loop .inv .1) (c .before .loop .inv .2)
+returns c =
+    let s = c .before .before .before .before in
+    row-all _ _ (s .args .code) (s .args .labels .now) (c .before .loop .v) _ (omega arith) (c .before .loop .inv .1) (c .before .loop .inv .2)
 
 pub label-rest-spec : {M : Type 1} → statement M
 label-rest-spec =

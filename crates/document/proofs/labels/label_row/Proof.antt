@@ -24,17 +24,24 @@ label-byte-requires : tie.Need-label-byte-requires Inv-loop μ-loop
 label-byte-requires c κs = (omega (arith, c .before .before .before .before .pre .2), omega arith)
 
 slice-write-w : tie.Need-slice-write-w Inv-loop μ-loop
-slice-write-w c = omega (arith, c .before .before .loop .inv .1 .same, c .before .before .before .before .before .pre .1, c .before .before .before .before .before .pre .2)
+slice-write-w c =
+    let s = c .before .before .before .before .before in
+    omega (arith, c .before .before .loop .inv .1 .same, s .pre .1, s .pre .2)
 
 loop-again : tie.Need-loop-again Inv-loop μ-loop
-loop-again c = (
-  omega arith,
-  only-then _ _ _ _ (c .before .before .loop .inv .1) (store-only _ _ (c .before .before .loop .i) _ (omega (arith, c .before .before .before .before .before .pre .2)) (omega (arith, c .before .before .loop .inv .1 .same, c .before .before .before .before .before .pre .1))),
-  row-byte _ (Suits (c .before .before .before .before .before .args .code) (c .before .before .before .before .before .args .labels .now)) (c .before .before .loop .i) _ _ (omega (arith, c .before .before .before .before .before .pre .2)) (omega (arith, c .before .before .loop .inv .1 .same, c .before .before .before .before .before .pre .1)) (c .label-byte .ensures) (c .before .before .loop .inv .2),
-)
+loop-again c =
+    let s = c .before .before .before .before .before in
+    let l = c .before .before in (
+      omega arith,
+      only-then _ _ _ _ (l .loop .inv .1) (store-only _ _ (l .loop .i) _ (omega (arith, s .pre .2)) (omega (arith, l .loop .inv .1 .same, s .pre .1))),
+      row-byte _ (Suits (s .args .code) (s .args .labels .now)) (l .loop .i) _ _ (omega (arith, s .pre .2)) (omega (arith, l .loop .inv .1 .same, s .pre .1)) (c .label-byte .ensures) (l .loop .inv .2),
+    )
 
 label-rest-requires : tie.Need-label-rest-requires Inv-loop μ-loop
-label-rest-requires c κs = let z : c .before .before .loop .i ≡ length (c .before .before .before .before .before .args .labels .now) / 8 = omega arith in (c .before .before .before .before .before .pre .0, omega (arith, c .before .before .loop .inv .1 .same, c .before .before .before .before .before .pre .1), c .before .before .before .before .before .pre .2, omega arith, rw z at (c .before .before .loop .inv .2))
+label-rest-requires c κs =
+    let s = c .before .before .before .before .before in
+    let l = c .before .before in
+    let z : l .loop .i ≡ length (s .args .labels .now) / 8 = omega arith in (s .pre .0, omega (arith, l .loop .inv .1 .same, s .pre .1), s .pre .2, omega arith, rw z at (l .loop .inv .2))
 
 same-length : tie.Need-same-length Inv-loop μ-loop
 same-length c = c .before .before .label-rest .ensures .only .same ∙ c .before .before .before .before .before .loop .inv .1 .same

@@ -20,7 +20,9 @@ loop-holds : tie.Need-loop-holds Inv-loop μ-loop
 loop-holds c = (omega arith, sifted-none _ _)
 
 loop-again : tie.Need-loop-again Inv-loop μ-loop
-loop-again c = (omega arith, sifted-more _ (λ j. eqb (getD (c .before .before .before .before .before .args .labels .now) (c .before .before .before .before .before .args .from + j) 0) (c .before .before .before .before .before .args .label)) _ _ _ (c .before .before .loop-test .taken) (c .before .before .before .loop .inv .1) (c .keep-bit .ensures))
+loop-again c =
+    let s = c .before .before .before .before .before in
+    (omega arith, sifted-more _ (λ j. eqb (getD (s .args .labels .now) (s .args .from + j) 0) (s .args .label)) _ _ _ (c .before .before .loop-test .taken) (c .before .before .before .loop .inv .1) (c .keep-bit .ensures))
 
 returns : tie.Need-returns Inv-loop μ-loop
 returns c = let z : c .before .loop .k ≡ 8 = omega arith in rw z at (c .before .loop .inv .1)

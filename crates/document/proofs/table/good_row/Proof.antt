@@ -8,10 +8,14 @@ returns : tie.Need-returns
 returns c = row-label (c .before .args .x) (c .before .args .parent) (c .before .args .label) (c .if1 .taken)
 
 returns-2 : tie.Need-returns-2
-returns-2 c = row-root (c .before .before .args .x) (c .before .before .args .parent) (c .before .before .args .label) (omega arith) (c .if2 .taken)
+returns-2 c =
+    let s = c .before .before in
+    row-root (s .args .x) (s .args .parent) (s .args .label) (omega arith) (c .if2 .taken)
 
 returns-3 : tie.Need-returns-3
-returns-3 c = row-lower (c .before .before .args .x) (c .before .before .args .parent) (c .before .before .args .label) (omega arith) (c .if2 .left)
+returns-3 c =
+    let s = c .before .before in
+    row-lower (s .args .x) (s .args .parent) (s .args .label) (omega arith) (c .if2 .left)
 
 pub good-row-spec : {M : Type 1} → statement M
 good-row-spec = tie.close (tie.spec returns returns-2 returns-3)

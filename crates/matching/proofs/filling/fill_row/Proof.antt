@@ -19,74 +19,102 @@ abbrev μ-loop : tie.MeasureT-loop
 μ-loop w₀ code span n u parents labels end c₀ w c = end - c
 
 mul-label-row : tie.Need-mul-label-row Inv-loop μ-loop
-mul-label-row c = omega (arith, c .before .before .before .before .before .before .pre .row, c .before .before .before .before .before .before .pre .query .codes)
+mul-label-row c =
+    let s = c .before .before .before .before .before .before in
+    omega (arith, s .pre .row, s .pre .query .codes)
 
 shared-slice-read-label-row : tie.Need-shared-slice-read-label-row Inv-loop μ-loop
-shared-slice-read-label-row c = omega (arith, c .before .before .before .before .before .before .before .pre .row, c .before .before .before .before .before .before .before .pre .query .codes)
+shared-slice-read-label-row c =
+    let s = c .before .before .before .before .before .before .before in
+    omega (arith, s .pre .row, s .pre .query .codes)
 
 label-row-requires : tie.Need-label-row-requires Inv-loop μ-loop
 label-row-requires c κs =
-    let G = good-table _ _ (c .before .before .before .before .before .before .before .pre .table) in
-    (omega (arith, c .before .before .before .before .before .before .before .pre .row, c .before .before .before .before .before .before .before .pre .query .few), omega (arith, c .before .before .before .before .before .before .before .pre .row, c .before .before .before .before .before .before .before .pre .query .few, c .before .before .before .before .before .before .before .pre .room), omega (arith, G .few, G .labels), c .before .before .before .before .before .before .before .pre .clear)
+    let s = c .before .before .before .before .before .before .before in
+    let G = good-table _ _ (s .pre .table) in
+    (omega (arith, s .pre .row, s .pre .query .few), omega (arith, s .pre .row, s .pre .query .few, s .pre .room), omega (arith, G .few, G .labels), s .pre .clear)
 
 link-requires : tie.Need-link-requires Inv-loop μ-loop
-link-requires c κs = omega (arith, c .before .before .before .before .before .before .before .before .before .before .pre .row, c .before .before .before .before .before .before .before .before .before .before .pre .query .spans)
+link-requires c κs =
+    let s = c .before .before .before .before .before .before .before .before .before .before in
+    omega (arith, s .pre .row, s .pre .query .spans)
 
 add-end : tie.Need-add-end Inv-loop μ-loop
-add-end c = let o = row-opens _ _ (c .before .before .before .before .before .before .before .before .before .before .before .pre .query .laid) _ (c .before .before .before .before .before .before .before .before .before .before .before .pre .row) in omega (arith, c .link .ensures .0, o .inside, c .before .before .before .before .before .before .before .before .before .before .before .pre .query .few)
+add-end c =
+    let s = c .before .before .before .before .before .before .before .before .before .before .before in
+    let o = row-opens _ _ (s .pre .query .laid) _ (s .pre .row) in omega (arith, c .link .ensures .0, o .inside, s .pre .query .few)
 
 add-c : tie.Need-add-c Inv-loop μ-loop
-add-c c = omega (arith, c .before .before .before .before .before .before .before .before .before .before .before .pre .row, c .before .before .before .before .before .before .before .before .before .before .before .pre .query .few)
+add-c c =
+    let s = c .before .before .before .before .before .before .before .before .before .before .before in
+    omega (arith, s .pre .row, s .pre .query .few)
 
 loop-holds : tie.Need-loop-holds Inv-loop μ-loop
 loop-holds c =
-    let o = row-opens _ _ (c .before .before .before .before .before .before .before .before .before .before .before .pre .query .laid) _ (c .before .before .before .before .before .before .before .before .before .before .before .pre .row) in (
+    let s2 = c .before .before .before .before .before .before .before .before .before .before .before in
+    let b = c .before .before .before in
+    let o = row-opens _ _ (s2 .pre .query .laid) _ (s2 .pre .row) in (
       omega arith,
       omega (arith, c .link .ensures .0, o .inside),
       only-refl _ _,
-      rows-kept (c .before .before .before .before .before .before .before .before .before .before .before .args .code .now) (c .before .before .before .before .before .before .before .before .before .before .before .args .span .now) _ _ (c .before .before .before .before .before .before .before .before .before .before .before .pre .table) _ _ _ _ (c .before .before .before .label-row .ensures .only) (c .before .before .before .before .before .before .before .before .before .before .before .pre .behind),
-      rw (c .link .ensures .0) (partly-start _ _ _ _ (c .before .before .before .before .before .before .before .before .before .before .before .pre .table) _ _ (c .before .before .before .before .before .before .before .before .before .before .before .pre .query) (c .before .before .before .before .before .before .before .before .before .before .before .pre .row) _ _ (c .before .before .before .label-row .ensures)),
-      λ x l t. let G = good-table _ _ (c .before .before .before .before .before .before .before .before .before .before .before .pre .table) in let s = c .before .before .before .label-row .ensures .bits x l .0 t in omega (arith, s .0, G .labels),
+      rows-kept (s2 .args .code .now) (s2 .args .span .now) _ _ (s2 .pre .table) _ _ _ _ (b .label-row .ensures .only) (s2 .pre .behind),
+      rw (c .link .ensures .0) (partly-start _ _ _ _ (s2 .pre .table) _ _ (s2 .pre .query) (s2 .pre .row) _ _ (b .label-row .ensures)),
+      λ x l t. let G = good-table _ _ (s2 .pre .table) in let s = b .label-row .ensures .bits x l .0 t in omega (arith, s .0, G .labels),
     )
 
 row-clear-requires : tie.Need-row-clear-requires Inv-loop μ-loop
-row-clear-requires c κs = (omega (arith, c .before .before .before .before .before .before .before .before .before .before .before .before .before .before .pre .row, c .before .before .before .before .before .before .before .before .before .before .before .before .before .before .pre .query .few), omega (arith, c .before .before .before .before .before .before .before .before .before .before .before .before .before .before .pre .row, c .before .before .before .before .before .before .before .before .before .before .before .before .before .before .pre .query .few, c .before .before .before .before .before .before .before .before .before .before .before .before .before .before .pre .room, c .before .before .before .before .before .before .label-row .ensures .only .same, c .before .before .loop .inv .2 .same))
+row-clear-requires c κs =
+    let s = c .before .before .before .before .before .before .before .before .before .before .before .before .before .before in
+    (omega (arith, s .pre .row, s .pre .query .few), omega (arith, s .pre .row, s .pre .query .few, s .pre .room, c .before .before .before .before .before .before .label-row .ensures .only .same, c .before .before .loop .inv .2 .same))
 
 same-length : tie.Need-same-length Inv-loop μ-loop
 same-length c = c .before .before .before .before .loop .inv .2 .same ∙ c .before .before .before .before .before .before .before .before .label-row .ensures .only .same
 
 returns : tie.Need-returns Inv-loop μ-loop
-returns c = record { only = only-then _ _ _ _ (c .before .before .before .before .before .before .before .before .label-row .ensures .only) (c .before .before .before .before .loop .inv .2); bits = partly-clear _ _ _ _ (c .before .before .before .before .before .before .before .before .before .before .before .before .before .before .before .before .pre .table) _ _ _ _ (row-clear _ _ (sym (c .before .row-clear .ensures) ∙ c .if1 .taken)) (c .before .before .before .before .loop .inv .4) }
+returns c =
+    let l = c .before .before .before .before in
+    record { only = only-then _ _ _ _ (c .before .before .before .before .before .before .before .before .label-row .ensures .only) (l .loop .inv .2); bits = partly-clear _ _ _ _ (c .before .before .before .before .before .before .before .before .before .before .before .before .before .before .before .before .pre .table) _ _ _ _ (row-clear _ _ (sym (c .before .row-clear .ensures) ∙ c .if1 .taken)) (l .loop .inv .4) }
 
 keep-parents-requires : tie.Need-keep-parents-requires Inv-loop μ-loop
 keep-parents-requires c κs =
-    let G = good-table _ _ (c .before .before .before .before .before .before .before .before .before .before .before .before .before .before .before .before .before .pre .table) in (
+    let s = c .before .before .before .before .before .before .before .before .before .before .before .before .before .before .before .before .before in
+    let l = c .before .before .before .before .before in
+    let b = c .before .before .before .before in
+    let G = good-table _ _ (s .pre .table) in (
       good-parents _ _ G,
-      omega (arith, c .before .before .before .before .before .before .before .before .before .before .before .before .before .before .before .before .before .pre .row, c .before .before .before .before .before .before .before .before .before .before .before .before .before .before .before .before .before .pre .query .few),
-      omega (arith, c .before .before .before .before .before .before .before .before .before .before .before .before .before .before .before .before .before .pre .query .few, c .before .before .before .before .before .loop .inv .1, c .before .before .before .before .loop-test .taken),
-      omega (arith, c .before .before .before .before .before .before .before .before .before .before .before .before .before .before .before .before .before .pre .room, c .before .before .before .before .before .before .before .before .before .label-row .ensures .only .same, c .before .before .before .before .before .loop .inv .2 .same),
-      rows-inside (c .before .before .before .before .before .before .before .before .before .before .before .before .before .before .before .before .before .args .code .now) (c .before .before .before .before .before .before .before .before .before .before .before .before .before .before .before .before .before .args .span .now) _ _ (c .before .before .before .before .before .before .before .before .before .before .before .before .before .before .before .before .before .pre .table) _ _ _ (c .before .before .before .before .before .loop .inv .3) (c .before .before .before .before .before .loop .c) (omega (arith, c .before .before .before .before .before .loop .inv .0)) (omega (arith, c .before .before .before .before .before .loop .inv .1, c .before .before .before .before .loop-test .taken)),
-      c .before .before .before .before .before .loop .inv .5,
+      omega (arith, s .pre .row, s .pre .query .few),
+      omega (arith, s .pre .query .few, l .loop .inv .1, b .loop-test .taken),
+      omega (arith, s .pre .room, c .before .before .before .before .before .before .before .before .before .label-row .ensures .only .same, l .loop .inv .2 .same),
+      rows-inside (s .args .code .now) (s .args .span .now) _ _ (s .pre .table) _ _ _ (l .loop .inv .3) (l .loop .c) (omega (arith, l .loop .inv .0)) (omega (arith, l .loop .inv .1, b .loop-test .taken)),
+      l .loop .inv .5,
     )
 
 link-requires-2 : tie.Need-link-requires-2 Inv-loop μ-loop
 link-requires-2 c κs = omega (arith, c .before .before .before .before .before .before .before .before .before .before .before .before .before .before .before .before .before .before .before .before .pre .query .spans, c .before .before .before .before .before .before .before .before .loop .inv .1, c .before .before .before .before .before .before .before .loop-test .taken)
 
 add-c-2 : tie.Need-add-c-2 Inv-loop μ-loop
-add-c-2 c = let o = partly-next _ _ _ _ _ _ _ _ (c .before .before .before .before .before .before .before .before .loop-test .taken) (c .before .before .before .before .before .before .before .before .before .loop .inv .4) in omega (arith, c .link2 .ensures .0, o .1, c .before .before .before .before .before .before .before .before .before .loop .inv .1, c .before .before .before .before .before .before .before .before .before .before .before .before .before .before .before .before .before .before .before .before .before .pre .query .few)
+add-c-2 c =
+    let l = c .before .before .before .before .before .before .before .before .before in
+    let o = partly-next _ _ _ _ _ _ _ _ (c .before .before .before .before .before .before .before .before .loop-test .taken) (l .loop .inv .4) in omega (arith, c .link2 .ensures .0, o .1, l .loop .inv .1, c .before .before .before .before .before .before .before .before .before .before .before .before .before .before .before .before .before .before .before .before .before .pre .query .few)
 
 loop-less : tie.Need-loop-less Inv-loop μ-loop
-loop-less c = let o = partly-next _ _ _ _ _ _ _ _ (c .before .before .before .before .before .before .before .before .loop-test .taken) (c .before .before .before .before .before .before .before .before .before .loop .inv .4) in omega (arith, c .link2 .ensures .0, o .0, c .before .before .before .before .before .before .before .before .loop-test .taken)
+loop-less c =
+    let b = c .before .before .before .before .before .before .before .before in
+    let o = partly-next _ _ _ _ _ _ _ _ (b .loop-test .taken) (c .before .before .before .before .before .before .before .before .before .loop .inv .4) in omega (arith, c .link2 .ensures .0, o .0, b .loop-test .taken)
 
 loop-again : tie.Need-loop-again Inv-loop μ-loop
 loop-again c =
-    let o = partly-next _ _ _ _ _ _ _ _ (c .before .before .before .before .before .before .before .before .loop-test .taken) (c .before .before .before .before .before .before .before .before .before .loop .inv .4) in (
-      omega (arith, c .before .before .before .before .before .before .before .before .before .loop .inv .0),
-      c .before .before .before .before .before .before .before .before .before .loop .inv .1,
-      only-then _ _ _ _ (c .before .before .before .before .before .before .before .before .before .loop .inv .2) (c .before .before .before .keep-parents .ensures .only),
-      rows-kept (c .before .before .before .before .before .before .before .before .before .before .before .before .before .before .before .before .before .before .before .before .before .args .code .now) (c .before .before .before .before .before .before .before .before .before .before .before .before .before .before .before .before .before .before .before .before .before .args .span .now) _ _ (c .before .before .before .before .before .before .before .before .before .before .before .before .before .before .before .before .before .before .before .before .before .pre .table) _ _ _ _ (c .before .before .before .keep-parents .ensures .only) (c .before .before .before .before .before .before .before .before .before .loop .inv .3),
-      rw (c .link2 .ensures .0) (partly-turn _ _ _ _ (c .before .before .before .before .before .before .before .before .before .before .before .before .before .before .before .before .before .before .before .before .before .pre .table) _ _ _ (c .before .before .before .before .before .before .before .before .loop-test .taken) _ _ (λ x lx. c .before .before .before .before .before .before .before .before .before .loop .inv .3 (c .before .before .before .before .before .before .before .before .before .loop .c) x (omega (arith, c .before .before .before .before .before .before .before .before .before .loop .inv .0)) (omega (arith, c .before .before .before .before .before .before .before .before .before .loop .inv .1, c .before .before .before .before .before .before .before .before .loop-test .taken)) lx) (c .before .before .before .keep-parents .ensures) (c .before .before .before .before .before .before .before .before .before .loop .inv .4)),
-      λ x l t. c .before .before .before .before .before .before .before .before .before .loop .inv .5 x l (c .before .before .before .keep-parents .ensures .bits x l .0 t .0),
+    let s = c .before .before .before .before .before .before .before .before .before .before .before .before .before .before .before .before .before .before .before .before .before in
+    let l2 = c .before .before .before .before .before .before .before .before .before in
+    let b = c .before .before .before .before .before .before .before .before in
+    let b2 = c .before .before .before in
+    let o = partly-next _ _ _ _ _ _ _ _ (b .loop-test .taken) (l2 .loop .inv .4) in (
+      omega (arith, l2 .loop .inv .0),
+      l2 .loop .inv .1,
+      only-then _ _ _ _ (l2 .loop .inv .2) (b2 .keep-parents .ensures .only),
+      rows-kept (s .args .code .now) (s .args .span .now) _ _ (s .pre .table) _ _ _ _ (b2 .keep-parents .ensures .only) (l2 .loop .inv .3),
+      rw (c .link2 .ensures .0) (partly-turn _ _ _ _ (s .pre .table) _ _ _ (b .loop-test .taken) _ _ (λ x lx. l2 .loop .inv .3 (l2 .loop .c) x (omega (arith, l2 .loop .inv .0)) (omega (arith, l2 .loop .inv .1, b .loop-test .taken)) lx) (b2 .keep-parents .ensures) (l2 .loop .inv .4)),
+      λ x l t. l2 .loop .inv .5 x l (b2 .keep-parents .ensures .bits x l .0 t .0),
     )
 
 same-length-2 : tie.Need-same-length-2 Inv-loop μ-loop

@@ -8,10 +8,14 @@ returns : tie.Need-returns
 returns c = empty-byte (c .before .before .before .args .parents .now) _ _ (c .before .before .before .args .first) (c .if1 .taken)
 
 mark-eight-requires : tie.Need-mark-eight-requires
-mark-eight-requires c κs = (c .before .before .before .before .before .pre .0, c .before .before .before .before .before .pre .1, full-inside (c .before .before .before .before .before .args .parents .now) _ _ (c .before .if2 .taken) (c .before .before .before .before .before .pre .3))
+mark-eight-requires c κs =
+    let s = c .before .before .before .before .before in
+    (s .pre .0, s .pre .1, full-inside (s .args .parents .now) _ _ (c .before .if2 .taken) (s .pre .3))
 
 returns-2 : tie.Need-returns-2
-returns-2 c = full-byte (c .before .before .before .before .before .before .before .before .args .parents .now) _ _ _ (c .before .before .before .before .before .before .before .before .args .first) (c .before .before .before .before .if2 .taken) (c .before .before .mark-eight .ensures)
+returns-2 c =
+    let s = c .before .before .before .before .before .before .before .before in
+    full-byte (s .args .parents .now) _ _ _ (s .args .first) (c .before .before .before .before .if2 .taken) (c .before .before .mark-eight .ensures)
 
 pub mark-byte-spec : {M : Type 1} → statement M
 mark-byte-spec =

@@ -19,13 +19,19 @@ loop-holds : tie.Need-loop-holds Inv-loop μ-loop
 loop-holds c = (omega arith, upto-none (λ j v. getD (c .before .before .args .parents .now) (c .before .before .args .first + j) 0 ≡ v) _)
 
 add-mark-node : tie.Need-add-mark-node Inv-loop μ-loop
-add-mark-node c = omega (arith, c .before .before .before .before .pre .0 .few, c .before .before .before .before .pre .2)
+add-mark-node c =
+    let s = c .before .before .before .before in
+    omega (arith, s .pre .0 .few, s .pre .2)
 
 mark-node-requires : tie.Need-mark-node-requires Inv-loop μ-loop
-mark-node-requires c κs = (c .before .before .before .before .before .pre .0, omega (arith, c .before .before .loop .inv .1 .same, c .before .before .before .before .before .pre .1), omega (arith, c .before .before .before .before .before .pre .2, c .before .loop-test .taken))
+mark-node-requires c κs =
+    let s = c .before .before .before .before .before in
+    (s .pre .0, omega (arith, c .before .before .loop .inv .1 .same, s .pre .1), omega (arith, s .pre .2, c .before .loop-test .taken))
 
 loop-again : tie.Need-loop-again Inv-loop μ-loop
-loop-again c = (omega arith, upto-more (λ j v. getD (c .before .before .before .before .before .before .before .before .args .parents .now) (c .before .before .before .before .before .before .before .before .args .first + j) 0 ≡ v) _ _ _ _ (c .before .before .before .before .before .loop .inv .1) (c .before .before .mark-node .ensures))
+loop-again c =
+    let s = c .before .before .before .before .before .before .before .before in
+    (omega arith, upto-more (λ j v. getD (s .args .parents .now) (s .args .first + j) 0 ≡ v) _ _ _ _ (c .before .before .before .before .before .loop .inv .1) (c .before .before .mark-node .ensures))
 
 same-length : tie.Need-same-length Inv-loop μ-loop
 same-length c = c .before .loop .inv .1 .same

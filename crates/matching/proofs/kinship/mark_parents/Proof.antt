@@ -18,19 +18,27 @@ abbrev μ-loop : tie.MeasureT-loop
 μ-loop byte first parents has₀ k₀ has k = 8 - k
 
 loop-holds : tie.Need-loop-holds Inv-loop μ-loop
-loop-holds c = (omega arith, upto-none (λ j v. (bitOf (c .before .before .args .byte) j ≡ true) × (getD (c .before .before .args .parents .now) (c .before .before .args .first + j) 0 ≡ v)) _)
+loop-holds c =
+    let s = c .before .before in
+    (omega arith, upto-none (λ j v. (bitOf (s .args .byte) j ≡ true) × (getD (s .args .parents .now) (s .args .first + j) 0 ≡ v)) _)
 
 mark-parent-requires : tie.Need-mark-parent-requires Inv-loop μ-loop
-mark-parent-requires c κs = (c .before .before .before .before .before .pre .0, omega (arith, c .before .before .loop .inv .1 .same, c .before .before .before .before .before .pre .1), c .before .loop-test .taken, λ e. c .before .before .before .before .before .pre .3 _ e)
+mark-parent-requires c κs =
+    let s = c .before .before .before .before .before in
+    (s .pre .0, omega (arith, c .before .before .loop .inv .1 .same, s .pre .1), c .before .loop-test .taken, λ e. s .pre .3 _ e)
 
 loop-again : tie.Need-loop-again Inv-loop μ-loop
-loop-again c = (omega arith, upto-more (λ j v. (bitOf (c .before .before .before .before .before .before .before .before .args .byte) j ≡ true) × (getD (c .before .before .before .before .before .before .before .before .args .parents .now) (c .before .before .before .before .before .before .before .before .args .first + j) 0 ≡ v)) _ _ _ _ (c .before .before .before .before .before .loop .inv .1) (c .before .before .mark-parent .ensures))
+loop-again c =
+    let s = c .before .before .before .before .before .before .before .before in
+    (omega arith, upto-more (λ j v. (bitOf (s .args .byte) j ≡ true) × (getD (s .args .parents .now) (s .args .first + j) 0 ≡ v)) _ _ _ _ (c .before .before .before .before .before .loop .inv .1) (c .before .before .mark-parent .ensures))
 
 same-length : tie.Need-same-length Inv-loop μ-loop
 same-length c = c .before .loop .inv .1 .same
 
 returns : tie.Need-returns Inv-loop μ-loop
-returns c = let z : c .before .loop .k ≡ 8 = omega arith in whole-byte (c .before .before .before .before .args .parents .now) _ _ (c .before .before .before .before .args .byte) (c .before .before .before .before .args .first) (omega arith) (rw z at (c .before .loop .inv .1))
+returns c =
+    let s = c .before .before .before .before in
+    let z : c .before .loop .k ≡ 8 = omega arith in whole-byte (s .args .parents .now) _ _ (s .args .byte) (s .args .first) (omega arith) (rw z at (c .before .loop .inv .1))
 
 pub mark-parents-spec : {M : Type 1} → statement M
 mark-parents-spec =

@@ -17,42 +17,54 @@ abbrev μ-loop : tie.MeasureT-loop
 μ-loop w c parents has₀ at bytes b i₀ has i = bytes - i
 
 shared-slice-read-b : tie.Need-shared-slice-read-b Inv-loop μ-loop
-shared-slice-read-b c = omega (arith, c .before .before .before .before .pre .2, c .before .before .before .before .pre .3)
+shared-slice-read-b c =
+    let s = c .before .before .before .before in
+    omega (arith, s .pre .2, s .pre .3)
 
 mark-parents-requires : tie.Need-mark-parents-requires Inv-loop μ-loop
 mark-parents-requires c κs =
-    let lb : getD (c .before .before .before .before .before .args .w .now) (128 * c .before .before .before .before .before .args .c) 0 < 256 = omega (arith, c .before .before .before .before .shared-slice-known .given (128 * c .before .before .before .before .before .args .c)) in
-    (c .before .before .before .before .before .pre .0, c .before .before .before .before .before .pre .1, omega arith, first-inside _ _ (c .before .before .before .before .before .args .parents .now) (c .before .before .before .before .before .pre .4) lb)
+    let s = c .before .before .before .before .before in
+    let lb : getD (s .args .w .now) (128 * s .args .c) 0 < 256 = omega (arith, c .before .before .before .before .shared-slice-known .given (128 * s .args .c)) in
+    (s .pre .0, s .pre .1, omega arith, first-inside _ _ (s .args .parents .now) (s .pre .4) lb)
 
 loop-holds : tie.Need-loop-holds Inv-loop μ-loop
 loop-holds c = (omega arith, omega (arith, c .before .before .before .before .before .before .before .before .pre .0 .some), refl, λ h a. a)
 
 add-mark-byte : tie.Need-add-mark-byte Inv-loop μ-loop
-add-mark-byte c = omega (arith, c .before .before .before .before .before .before .before .before .before .before .pre .0 .few, c .before .before .before .before .before .before .before .before .before .before .pre .2, c .before .loop .inv .1)
+add-mark-byte c =
+    let s = c .before .before .before .before .before .before .before .before .before .before in
+    omega (arith, s .pre .0 .few, s .pre .2, c .before .loop .inv .1)
 
 shared-slice-read-mark-byte : tie.Need-shared-slice-read-mark-byte Inv-loop μ-loop
-shared-slice-read-mark-byte c = omega (arith, c .before .before .before .before .before .before .before .before .before .before .before .pre .0 .few, c .before .before .before .before .before .before .before .before .before .before .before .pre .3, c .before .before .loop .inv .1)
+shared-slice-read-mark-byte c =
+    let s = c .before .before .before .before .before .before .before .before .before .before .before in
+    omega (arith, s .pre .0 .few, s .pre .3, c .before .before .loop .inv .1)
 
 mul-mark-byte : tie.Need-mul-mark-byte Inv-loop μ-loop
 mul-mark-byte c = omega (arith, c .before .before .before .before .before .before .before .before .before .before .before .pre .0 .few, c .before .before .loop .inv .1)
 
 mark-byte-requires : tie.Need-mark-byte-requires Inv-loop μ-loop
 mark-byte-requires c κs =
-    let lb : getD (c .before .before .before .before .before .before .before .before .before .before .before .before .args .w .now) (128 * c .before .before .before .before .before .before .before .before .before .before .before .before .args .c + c .before .before .before .loop .i) 0 < 256 = omega (arith, c .before .before .before .before .before .before .before .before .before .before .before .shared-slice-known .given (128 * c .before .before .before .before .before .before .before .before .before .before .before .before .args .c + c .before .before .before .loop .i)) in
-    (c .before .before .before .before .before .before .before .before .before .before .before .before .pre .0, omega (arith, c .before .before .before .before .before .before .before .before .before .before .before .before .pre .1, c .before .before .before .before .before .before .mark-parents .ensures .same, c .before .before .before .loop .inv .2), omega (arith, c .before .before .before .before .before .before .before .before .before .before .before .before .pre .0 .few, c .before .before .before .loop .inv .1), byte-inside _ _ (c .before .before .before .before .before .before .before .before .before .before .before .before .args .parents .now) (c .before .before .before .before .before .before .before .before .before .before .before .before .pre .4) (c .before .before .before .loop .i) (omega (arith, c .before .before .before .before .before .before .before .before .before .before .before .before .pre .0 .few, c .before .before .before .loop .inv .1)) lb)
+    let s = c .before .before .before .before .before .before .before .before .before .before .before .before in
+    let l = c .before .before .before in
+    let lb : getD (s .args .w .now) (128 * s .args .c + l .loop .i) 0 < 256 = omega (arith, c .before .before .before .before .before .before .before .before .before .before .before .shared-slice-known .given (128 * s .args .c + l .loop .i)) in
+    (s .pre .0, omega (arith, s .pre .1, c .before .before .before .before .before .before .mark-parents .ensures .same, l .loop .inv .2), omega (arith, s .pre .0 .few, l .loop .inv .1), byte-inside _ _ (s .args .parents .now) (s .pre .4) (l .loop .i) (omega (arith, s .pre .0 .few, l .loop .inv .1)) lb)
 
 loop-again : tie.Need-loop-again Inv-loop μ-loop
 loop-again c =
-    let lb : getD (c .before .before .before .before .before .before .before .before .before .before .before .before .before .before .before .args .w .now) (128 * c .before .before .before .before .before .before .before .before .before .before .before .before .before .before .before .args .c + c .before .before .before .before .before .before .loop .i) 0 < 256 = omega (arith, c .before .before .before .before .before .before .before .before .before .before .before .before .before .before .shared-slice-known .given (128 * c .before .before .before .before .before .before .before .before .before .before .before .before .before .before .before .args .c + c .before .before .before .before .before .before .loop .i)) in
-    (omega arith, omega arith, c .before .before .mark-byte .ensures .same ∙ c .before .before .before .before .before .before .loop .inv .2, λ h a. added-byte _ _ (c .before .before .before .before .before .before .before .before .before .before .before .before .before .before .before .args .parents .now) (c .before .before .before .before .before .before .before .before .before .before .before .before .before .before .before .pre .4) _ _ _ (c .before .before .before .before .before .before .loop .i) (c .before .before .before .before .before .before .loop .inv .0) lb (c .before .before .before .before .before .before .loop .inv .3 h a) (c .before .before .mark-byte .ensures))
+    let s = c .before .before .before .before .before .before .before .before .before .before .before .before .before .before .before in
+    let l = c .before .before .before .before .before .before in
+    let lb : getD (s .args .w .now) (128 * s .args .c + l .loop .i) 0 < 256 = omega (arith, c .before .before .before .before .before .before .before .before .before .before .before .before .before .before .shared-slice-known .given (128 * s .args .c + l .loop .i)) in
+    (omega arith, omega arith, c .before .before .mark-byte .ensures .same ∙ l .loop .inv .2, λ h a. added-byte _ _ (s .args .parents .now) (s .pre .4) _ _ _ (l .loop .i) (l .loop .inv .0) lb (l .loop .inv .3 h a) (c .before .before .mark-byte .ensures))
 
 same-length : tie.Need-same-length Inv-loop μ-loop
 same-length c = c .before .loop .inv .2 ∙ c .before .before .before .before .mark-parents .ensures .same
 
 returns : tie.Need-returns Inv-loop μ-loop
 returns c =
-    let lb : getD (c .before .before .before .before .before .before .before .before .before .before .args .w .now) (128 * c .before .before .before .before .before .before .before .before .before .before .args .c) 0 < 256 = omega (arith, c .before .before .before .before .before .before .before .before .before .shared-slice-known .given (128 * c .before .before .before .before .before .before .before .before .before .before .args .c)) in
-    added-row _ _ (c .before .before .before .before .before .before .before .before .before .before .args .parents .now) (c .before .before .before .before .before .before .before .before .before .before .pre .4) _ _ (c .before .loop .i) (omega arith) (omega (arith, c .before .before .before .before .before .before .before .before .before .before .pre .0 .few, c .before .loop .inv .1)) (c .before .loop .inv .3 _ (added-first _ _ (c .before .before .before .before .before .before .before .before .before .before .args .parents .now) (c .before .before .before .before .before .before .before .before .before .before .pre .4) _ _ lb (c .before .before .before .before .mark-parents .ensures)))
+    let s = c .before .before .before .before .before .before .before .before .before .before in
+    let lb : getD (s .args .w .now) (128 * s .args .c) 0 < 256 = omega (arith, c .before .before .before .before .before .before .before .before .before .shared-slice-known .given (128 * s .args .c)) in
+    added-row _ _ (s .args .parents .now) (s .pre .4) _ _ (c .before .loop .i) (omega arith) (omega (arith, s .pre .0 .few, c .before .loop .inv .1)) (c .before .loop .inv .3 _ (added-first _ _ (s .args .parents .now) (s .pre .4) _ _ lb (c .before .before .before .before .mark-parents .ensures)))
 
 pub mark-row-spec : {M : Type 1} → statement M
 mark-row-spec =
