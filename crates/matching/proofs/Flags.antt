@@ -24,6 +24,10 @@ use Rattle.document.proofs.Nodes.{true-false, iff-same}
 pub good-parents : (P L : List ℕ) → Good P L → Parents P
 good-parents P L G = record { some = G .some; few = G .few; small = λ x l. let z = G .upTo x l in let y = G .few in omega arith }
 
+or-map : {A B C : Type 0} → (B → C) → A ⊎ B → A ⊎ C
+or-map f (inl a) = inl a
+or-map f (inr b) = inr (f b)
+
 -- ------------------------------------------------------------------ one node
 pub added-one : (p : ℕ) (h : List ℕ) → p < length h → Added h (λ v. p ≡ v) (set h p 1)
 added-one p h lp = record { same = length-set h p 1; flags = λ v l. go v (ℕ-discrete v p) }
@@ -38,15 +42,20 @@ added-one p h lp = record { same = length-set h p 1; flags = λ v l. go v (ℕ-d
 
 -- what is added, said otherwise
 added-same : (h h′ : List ℕ) (P Q : ℕ → Type 0) → ((v : ℕ) → P v ↔ Q v) → Added h P h′ → Added h Q h′
-added-same h h′ P Q f a = record { same = a .same; flags = λ v l. (λ t. to v (a .flags v l .0 t), λ y. a .flags v l .1 (from v y)) }
-  where
-    to : (v : ℕ) → (getD h v 0 ≡ 1) ⊎ P v → (getD h v 0 ≡ 1) ⊎ Q v
-    to v (inl t) = inl t
-    to v (inr y) = inr (f v .0 y)
+added-same h h′ P Q f a = record { same = a .same; flags = λ v l. (λ t. or-map (f v .0) (a .flags v l .0 t), λ y. a .flags v l .1 (or-map (f v .1) y)) }
 
-    from : (v : ℕ) → (getD h v 0 ≡ 1) ⊎ Q v → (getD h v 0 ≡ 1) ⊎ P v
-    from v (inl t) = inl t
-    from v (inr y) = inr (f v .1 y)
+-- first these, then those
+added-then : (h₀ h h′ : List ℕ) (P Q : ℕ → Type 0) → Added h₀ P h → Added h Q h′ → Added h₀ (λ v. P v ⊎ Q v) h′
+added-then h₀ h h′ P Q a b = record { same = b .same ∙ a .same; flags = λ v l. (λ t. to v l (b .flags v l .0 t), λ y. b .flags v l .1 (from v l y)) }
+  where
+    to : (v : ℕ) → v < mostRows → (getD h v 0 ≡ 1) ⊎ Q v → (getD h₀ v 0 ≡ 1) ⊎ (P v ⊎ Q v)
+    to v l (inl t) = or-map (λ y. inl y) (a .flags v l .0 t)
+    to v l (inr y) = inr (inr y)
+
+    from : (v : ℕ) → v < mostRows → (getD h₀ v 0 ≡ 1) ⊎ (P v ⊎ Q v) → (getD h v 0 ≡ 1) ⊎ Q v
+    from v l (inl t) = inl (a .flags v l .1 (inl t))
+    from v l (inr (inl y)) = inl (a .flags v l .1 (inr y))
+    from v l (inr (inr y)) = inr y
 
 -- nothing is added
 added-none : (h : List ℕ) (Q : ℕ → Type 0) → ((v : ℕ) → Q v → ⊥) → Added h Q h
@@ -68,23 +77,18 @@ pub upto-none : (Q : ℕ → ℕ → Type 0) (h : List ℕ) → Added h (Upto Q 
 upto-none Q h = added-none h (Upto Q 0) (λ v (k, l, _). omega arith)
 
 pub upto-more : (Q : ℕ → ℕ → Type 0) (h₀ h h′ : List ℕ) (e : ℕ) → Added h₀ (Upto Q e) h → Added h (Q e) h′ → Added h₀ (Upto Q (e + 1)) h′
-upto-more Q h₀ h h′ e a b = record { same = b .same ∙ a .same; flags = λ v l. (λ t. to v l (b .flags v l .0 t), λ y. b .flags v l .1 (from v l y)) }
+upto-more Q h₀ h h′ e a b = added-same h₀ h′ (λ v. Upto Q e v ⊎ Q e v) (Upto Q (e + 1)) (λ v. (to v, from v)) (added-then h₀ h h′ (Upto Q e) (Q e) a b)
   where
-    to : (v : ℕ) → v < mostRows → (getD h v 0 ≡ 1) ⊎ Q e v → (getD h₀ v 0 ≡ 1) ⊎ Upto Q (e + 1) v
-    to v l (inr y) = inr (e, omega arith, y)
-    to v l (inl t) = go (a .flags v l .0 t)
-      where
-        go : (getD h₀ v 0 ≡ 1) ⊎ Upto Q e v → (getD h₀ v 0 ≡ 1) ⊎ Upto Q (e + 1) v
-        go (inl y) = inl y
-        go (inr (k, lk, y)) = inr (k, omega arith, y)
+    to : (v : ℕ) → Upto Q e v ⊎ Q e v → Upto Q (e + 1) v
+    to v (inl (k, l, y)) = (k, omega arith, y)
+    to v (inr y) = (e, omega arith, y)
 
-    from : (v : ℕ) → v < mostRows → (getD h₀ v 0 ≡ 1) ⊎ Upto Q (e + 1) v → (getD h v 0 ≡ 1) ⊎ Q e v
-    from v l (inl t) = inl (a .flags v l .1 (inl t))
-    from v l (inr (k, lk, y)) = last (ℕ-discrete k e)
+    from : (v : ℕ) → Upto Q (e + 1) v → Upto Q e v ⊎ Q e v
+    from v (k, l, y) = last (ℕ-discrete k e)
       where
-        last : Dec (k ≡ e) → (getD h v 0 ≡ 1) ⊎ Q e v
+        last : Dec (k ≡ e) → Upto Q e v ⊎ Q e v
         last (yes d) = inr (rw d at y)
-        last (no d) = inl (a .flags v l .1 (inr (k, omega arith, y)))
+        last (no d) = inl (k, omega arith, y)
 
 -- a byte has eight bits
 byte-bits : (b k : ℕ) → b < 256 → bitOf b k ≡ true → k < 8
@@ -127,64 +131,58 @@ module _ (w : List ℕ) (c : ℕ) (P : List ℕ) (inside : RowInside w c P) wher
       omega arith
 
   pub added-first : (h₀ h : List ℕ) → getD w (128 * c) 0 < 256 → Added h₀ (FromByte P (getD w (128 * c) 0 / 2) 1) h → Added h₀ (ParentOf w c P (8 * 1)) h
-  added-first h₀ h lb a = record { same = a .same; flags = λ v l. (λ e. to v (a .flags v l .0 e), λ y. a .flags v l .1 (from v y)) }
+  added-first h₀ h lb a = added-same h₀ h (FromByte P (getD w (128 * c) 0 / 2) 1) (ParentOf w c P (8 * 1)) (λ v. (to v, from v)) a
     where
       at0 : 128 * c + 0 ≡ 128 * c
       at0 = omega arith
 
-      to : (v : ℕ) → (getD h₀ v 0 ≡ 1) ⊎ FromByte P (getD w (128 * c) 0 / 2) 1 v → (getD h₀ v 0 ≡ 1) ⊎ ParentOf w c P (8 * 1) v
-      to v (inl e) = inl e
-      to v (inr (k, e, p)) =
+      to : (v : ℕ) → FromByte P (getD w (128 * c) 0 / 2) 1 v → ParentOf w c P (8 * 1) v
+      to v (k, e, p) =
           let s = sym (half-bit (getD w (128 * c) 0) k) ∙ e in
           let lk = byte-bits (getD w (128 * c) 0) (suc k) lb s in
           let q : 8 * 0 + suc k ≡ 1 + k = omega arith in
           let y : bitOf (getD w (128 * c + 0) 0) (suc k) ≡ true = rw at0 s in
-          inr (1 + k, omega arith, omega arith, rw q at (byte-bit w c 0 (suc k) lk ∙ y), p)
+          (1 + k, omega arith, omega arith, rw q at (byte-bit w c 0 (suc k) lk ∙ y), p)
 
-      from : (v : ℕ) → (getD h₀ v 0 ≡ 1) ⊎ ParentOf w c P (8 * 1) v → (getD h₀ v 0 ≡ 1) ⊎ FromByte P (getD w (128 * c) 0 / 2) 1 v
-      from v (inl e) = inl e
-      from v (inr (zero, z, l, e, p)) = absurd (omega arith)
-      from v (inr (suc k, z, l, e, p)) =
+      from : (v : ℕ) → ParentOf w c P (8 * 1) v → FromByte P (getD w (128 * c) 0 / 2) 1 v
+      from v (zero, z, l, e, p) = absurd (omega arith)
+      from v (suc k, z, l, e, p) =
           let q : 8 * 0 + suc k ≡ suc k = omega arith in
           let r : 1 + k ≡ suc k = omega arith in
           let lk : suc k < 8 = omega arith in
           let y : bitAt w c (8 * 0 + suc k) ≡ true = rw q e in
-          inr (k, half-bit (getD w (128 * c) 0) k ∙ (rw at0 at (sym (byte-bit w c 0 (suc k) lk) ∙ y)), rw r p)
+          (k, half-bit (getD w (128 * c) 0) k ∙ (rw at0 at (sym (byte-bit w c 0 (suc k) lk) ∙ y)), rw r p)
 
   pub added-byte : (h₀ h h′ : List ℕ) (i : ℕ) → 1 ≤ i → getD w (128 * c + i) 0 < 256 → Added h₀ (ParentOf w c P (8 * i)) h
       → Added h (FromByte P (getD w (128 * c + i) 0) (8 * i)) h′ → Added h₀ (ParentOf w c P (8 * (i + 1))) h′
-  added-byte h₀ h h′ i li lb a b = record { same = b .same ∙ a .same; flags = λ v l. (λ e. to v l (b .flags v l .0 e), λ y. b .flags v l .1 (from v l y)) }
+  added-byte h₀ h h′ i li lb a b =
+      added-same h₀ h′ (λ v. Before v ⊎ Here v) (ParentOf w c P (8 * (i + 1))) (λ v. (to v, from v)) (added-then h₀ h h′ Before Here a b)
     where
-      to : (v : ℕ) → v < mostRows → (getD h v 0 ≡ 1) ⊎ FromByte P (getD w (128 * c + i) 0) (8 * i) v → (getD h₀ v 0 ≡ 1) ⊎ ParentOf w c P (8 * (i + 1)) v
-      to v l (inr (k, e, p)) =
-          let lk = byte-bits (getD w (128 * c + i) 0) k lb e in inr (8 * i + k, omega arith, omega arith, byte-bit w c i k lk ∙ e, p)
-      to v l (inl e) = go (a .flags v l .0 e)
-        where
-          go : (getD h₀ v 0 ≡ 1) ⊎ ParentOf w c P (8 * i) v → (getD h₀ v 0 ≡ 1) ⊎ ParentOf w c P (8 * (i + 1)) v
-          go (inl y) = inl y
-          go (inr (x, z, m, y, p)) = inr (x, z, omega arith, y, p)
+      Before : ℕ → Type 0
+      Before = ParentOf w c P (8 * i)
 
-      from : (v : ℕ) → v < mostRows → (getD h₀ v 0 ≡ 1) ⊎ ParentOf w c P (8 * (i + 1)) v → (getD h v 0 ≡ 1) ⊎ FromByte P (getD w (128 * c + i) 0) (8 * i) v
-      from v l (inl e) = inl (a .flags v l .1 (inl e))
-      from v l (inr (x, z, m, e, p)) = go (decLt x (8 * i))
+      Here : ℕ → Type 0
+      Here = FromByte P (getD w (128 * c + i) 0) (8 * i)
+
+      to : (v : ℕ) → Before v ⊎ Here v → ParentOf w c P (8 * (i + 1)) v
+      to v (inl (x, z, m, y, p)) = (x, z, omega arith, y, p)
+      to v (inr (k, e, p)) =
+          let lk = byte-bits (getD w (128 * c + i) 0) k lb e in (8 * i + k, omega arith, omega arith, byte-bit w c i k lk ∙ e, p)
+
+      from : (v : ℕ) → ParentOf w c P (8 * (i + 1)) v → Before v ⊎ Here v
+      from v (x, z, m, e, p) = go (decLt x (8 * i))
         where
-          go : Dec (x < 8 * i) → (getD h v 0 ≡ 1) ⊎ FromByte P (getD w (128 * c + i) 0) (8 * i) v
-          go (yes d) = inl (a .flags v l .1 (inr (x, z, d, e, p)))
+          go : Dec (x < 8 * i) → Before v ⊎ Here v
+          go (yes d) = inl (x, z, d, e, p)
           go (no d) =
               let q : 8 * i + (x - 8 * i) ≡ x = omega arith in
               let lk : x - 8 * i < 8 = omega arith in
               inr (x - 8 * i, sym (byte-bit w c i (x - 8 * i) lk) ∙ rw q e, rw q p)
 
   pub added-row : (h₀ h : List ℕ) (i : ℕ) → length P ≤ 8 * i → i ≤ 128 → Added h₀ (ParentOf w c P (8 * i)) h → Added h₀ (ParentOf w c P (length P)) h
-  added-row h₀ h i l m a = record { same = a .same; flags = λ v lv. (λ e. to v (a .flags v lv .0 e), λ y. a .flags v lv .1 (from v y)) }
-    where
-      to : (v : ℕ) → (getD h₀ v 0 ≡ 1) ⊎ ParentOf w c P (8 * i) v → (getD h₀ v 0 ≡ 1) ⊎ ParentOf w c P (length P) v
-      to v (inl e) = inl e
-      to v (inr (x, z, n, e, p)) = inr (x, z, inside x (omega arith) e, e, p)
-
-      from : (v : ℕ) → (getD h₀ v 0 ≡ 1) ⊎ ParentOf w c P (length P) v → (getD h₀ v 0 ≡ 1) ⊎ ParentOf w c P (8 * i) v
-      from v (inl e) = inl e
-      from v (inr (x, z, n, e, p)) = inr (x, z, omega arith, e, p)
+  added-row h₀ h i l m a =
+      added-same h₀ h (ParentOf w c P (8 * i)) (ParentOf w c P (length P))
+      (λ v. (λ (x, z, n, e, p). (x, z, inside x (omega arith) e, e, p), λ (x, z, n, e, p). (x, z, omega arith, e, p))) a
 
 -- what row u keeps
 pub kept : (w b h₀ h : List ℕ) (u e : ℕ) (Q : ℕ → Type 0) → ((i : ℕ) → i < mostRows → getD h₀ i 0 ≡ 0) → ((v : ℕ) → v < mostRows → bitAt w u v ≡ true → v < e) → Added h₀ Q h → Met w u h e b
