@@ -5,10 +5,10 @@ use native.Mathlib.Omega.{arith}
 use lib.ListN.{length, length-set}
 use Rattle.order.specs.LaidOut.{Borne}
 use Rattle.order.proofs.LaidOut.{borne-more}
-use Rattle.order.proofs.bear.Statement.{statement}
-use Rattle.order.proofs.bear.Tie as tie
-use Rattle.order.proofs.bear.Reads as reads
-use Rattle.order.proofs.bear.Lts as lts
+use Rattle.order.proofs.laying.bear.Statement.{statement}
+use Rattle.order.proofs.laying.bear.Tie as tie
+use Rattle.order.proofs.laying.bear.Reads as reads
+use Rattle.order.proofs.laying.bear.Lts as lts
 use Rattle.rows.proofs.link.Reads as link-reads
 use Rattle.rows.proofs.set_link.Reads as set-link-reads
 

@@ -1,10 +1,10 @@
 use native.Mathlib.Omega.{arith}
 use Rattle.order.specs.Links.{forestAt}
 use Rattle.order.proofs.LaidOut.{Laying, toGo, laying-none, low, fits, down-less, laying-down, laid-all, climbs}
-use Rattle.order.proofs.lay.Statement.{statement}
-use Rattle.order.proofs.lay.Tie as tie
-use Rattle.order.proofs.lay.Reads as reads
-use Rattle.order.proofs.lay.Lts as lts
+use Rattle.order.proofs.laying.lay.Statement.{statement}
+use Rattle.order.proofs.laying.lay.Tie as tie
+use Rattle.order.proofs.laying.lay.Reads as reads
+use Rattle.order.proofs.laying.lay.Lts as lts
 use Rattle.rows.proofs.link.Reads as link-reads
 use Rattle.rows.proofs.set_link.Reads as set-link-reads
 

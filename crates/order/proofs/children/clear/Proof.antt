@@ -5,10 +5,10 @@ use native.Mathlib.Omega.{arith}
 use lib.ListN.{length, length-set}
 use Rattle.order.specs.Gathering.{Cleared}
 use Rattle.order.proofs.Gathering.{cleared-more}
-use Rattle.order.proofs.clear.Statement.{statement}
-use Rattle.order.proofs.clear.Tie as tie
-use Rattle.order.proofs.clear.Reads as reads
-use Rattle.order.proofs.clear.Lts as lts
+use Rattle.order.proofs.children.clear.Statement.{statement}
+use Rattle.order.proofs.children.clear.Tie as tie
+use Rattle.order.proofs.children.clear.Reads as reads
+use Rattle.order.proofs.children.clear.Lts as lts
 
 abbrev Inv-loop : tie.InvT-loop
 Inv-loop n first₀ count₀ i₀ first count i = (i ≤ n + 1) × (length first ≡ length first₀) × (length count ≡ length count₀) × Cleared i first count
