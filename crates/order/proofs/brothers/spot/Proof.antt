@@ -4,12 +4,12 @@ use lib.ListN.{getD}
 use Rattle.meaning.specs.Tree.{size}
 use Rattle.order.specs.Links.{Finite, forestAt, spotOf}
 use Rattle.order.proofs.Links.{opens, goes-along, spot-end, spot-here, spot-on}
-use Rattle.order.proofs.spot.Statement.{statement}
-use Rattle.order.proofs.spot.Tie as tie
-use Rattle.order.proofs.spot.Reads as reads
-use Rattle.order.proofs.spot.Lts as lts
-use Rattle.order.proofs.goes_first.Reads as goes-first-reads
-use Rattle.order.proofs.link.Reads as link-reads
+use Rattle.order.proofs.brothers.spot.Statement.{statement}
+use Rattle.order.proofs.brothers.spot.Tie as tie
+use Rattle.order.proofs.brothers.spot.Reads as reads
+use Rattle.order.proofs.brothers.spot.Lts as lts
+use Rattle.order.proofs.brothers.goes_first.Reads as goes-first-reads
+use Rattle.rows.proofs.link.Reads as link-reads
 
 abbrev Inv-loop : tie.InvT-loop
 Inv-loop first next key c q n p₀ at₀ p at = Finite first next at × (spotOf key c (forestAt first next (getD first c 0)) p₀ (forestAt first next at₀) ≡ spotOf key c (forestAt first next (getD first c 0)) p (forestAt first next at))

@@ -1,12 +1,12 @@
 use Rattle.order.proofs.Inserting.{placed-front, placed-after}
 use borrow.Author.Needs.{needs}
-use Rattle.order.proofs.place.Statement.{statement}
-use Rattle.order.proofs.place.Tie as tie
-use Rattle.order.proofs.place.Reads as reads
-use Rattle.order.proofs.place.Lts as lts
-use Rattle.order.proofs.link.Reads as link-reads
-use Rattle.order.proofs.set_link.Reads as set-link-reads
-use Rattle.order.proofs.spot.Reads as spot-reads
+use Rattle.order.proofs.brothers.place.Statement.{statement}
+use Rattle.order.proofs.brothers.place.Tie as tie
+use Rattle.order.proofs.brothers.place.Reads as reads
+use Rattle.order.proofs.brothers.place.Lts as lts
+use Rattle.rows.proofs.link.Reads as link-reads
+use Rattle.rows.proofs.set_link.Reads as set-link-reads
+use Rattle.order.proofs.brothers.spot.Reads as spot-reads
 
 returns : tie.Need-returns
 returns c =

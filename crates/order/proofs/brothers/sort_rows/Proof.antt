@@ -5,11 +5,11 @@ use native.Mathlib.Omega.{arith}
 use lib.ListN.{length}
 use Rattle.order.specs.Sorting.{Sortable, Sorting}
 use Rattle.order.proofs.Sorting.{sorting-none, sortable-kept, sorted-all}
-use Rattle.order.proofs.sort_rows.Statement.{statement}
-use Rattle.order.proofs.sort_rows.Tie as tie
-use Rattle.order.proofs.sort_rows.Reads as reads
-use Rattle.order.proofs.sort_rows.Lts as lts
-use Rattle.order.proofs.sort_row.Reads as sort-row-reads
+use Rattle.order.proofs.brothers.sort_rows.Statement.{statement}
+use Rattle.order.proofs.brothers.sort_rows.Tie as tie
+use Rattle.order.proofs.brothers.sort_rows.Reads as reads
+use Rattle.order.proofs.brothers.sort_rows.Lts as lts
+use Rattle.order.proofs.brothers.sort_row.Reads as sort-row-reads
 
 abbrev Inv-loop : tie.InvT-loop
 Inv-loop parent code mark n first₀ next₀ count₀ key₀ i₀ first next count key i = (i ≤ n) × (length first ≡ length first₀) × (length next ≡ length next₀) × (length count ≡ length count₀) × (length key ≡ length key₀) × Sortable parent code mark n first next count key × Sorting parent code mark n i first next count key

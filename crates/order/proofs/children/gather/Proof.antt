@@ -5,13 +5,13 @@ use native.Mathlib.Omega.{arith}
 use lib.ListN.{length}
 use Rattle.order.specs.Gathering.{slotOf, Slots, Gathered}
 use Rattle.order.proofs.Gathering.{gathered-none, slot-fits, count-fits, gathered-turn, slots-kept}
-use Rattle.order.proofs.gather.Statement.{statement}
-use Rattle.order.proofs.gather.Tie as tie
-use Rattle.order.proofs.gather.Reads as reads
-use Rattle.order.proofs.gather.Lts as lts
-use Rattle.order.proofs.link.Reads as link-reads
-use Rattle.order.proofs.set_link.Reads as set-link-reads
-use Rattle.order.proofs.slot.Reads as slot-reads
+use Rattle.order.proofs.children.gather.Statement.{statement}
+use Rattle.order.proofs.children.gather.Tie as tie
+use Rattle.order.proofs.children.gather.Reads as reads
+use Rattle.order.proofs.children.gather.Lts as lts
+use Rattle.rows.proofs.link.Reads as link-reads
+use Rattle.rows.proofs.set_link.Reads as set-link-reads
+use Rattle.order.proofs.children.slot.Reads as slot-reads
 
 abbrev Inv-loop : tie.InvT-loop
 Inv-loop parent n first₀ next₀ count₀ i₀ first next count i = (i ≤ n) × (length first ≡ length first₀) × (length next ≡ length next₀) × (length count ≡ length count₀) × Slots parent n first next count × Gathered parent n i first next count

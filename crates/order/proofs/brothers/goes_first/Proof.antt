@@ -2,13 +2,13 @@ use mathlib.Core.Path.{sym, ap, _∙_}
 use Rattle.order.specs.Links.{upTo}
 use Rattle.order.proofs.Links.{first-less, first-more, first-kids}
 use borrow.Author.Needs.{needs}
-use Rattle.order.proofs.goes_first.Statement.{statement}
-use Rattle.order.proofs.goes_first.Tie as tie
-use Rattle.order.proofs.goes_first.Reads as reads
-use Rattle.order.proofs.goes_first.Lts as lts
-use Rattle.order.proofs.compare.Reads as compare-reads
-use Rattle.order.proofs.key_at.Reads as key-at-reads
-use Rattle.order.proofs.link.Reads as link-reads
+use Rattle.order.proofs.brothers.goes_first.Statement.{statement}
+use Rattle.order.proofs.brothers.goes_first.Tie as tie
+use Rattle.order.proofs.brothers.goes_first.Reads as reads
+use Rattle.order.proofs.brothers.goes_first.Lts as lts
+use Rattle.order.proofs.brothers.compare.Reads as compare-reads
+use Rattle.order.proofs.key.key_at.Reads as key-at-reads
+use Rattle.rows.proofs.link.Reads as link-reads
 
 returns : tie.Need-returns
 returns c = first-less _ _ _ _ _ _ _ (c .before .before .key-at .ensures) (c .before .key-at2 .ensures) (c .if1 .taken)

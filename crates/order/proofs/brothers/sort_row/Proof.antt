@@ -4,15 +4,15 @@ use Rattle.order.specs.Gathering.{slotOf}
 use Rattle.order.specs.Keys.{keyOf}
 use Rattle.order.proofs.Sorting.{slot-fits, count-fits, row-ready, sorting-turn}
 use borrow.Author.Needs.{needs}
-use Rattle.order.proofs.sort_row.Statement.{statement}
-use Rattle.order.proofs.sort_row.Tie as tie
-use Rattle.order.proofs.sort_row.Reads as reads
-use Rattle.order.proofs.sort_row.Lts as lts
-use Rattle.order.proofs.key_of.Reads as key-of-reads
-use Rattle.order.proofs.link.Reads as link-reads
-use Rattle.order.proofs.place.Reads as place-reads
-use Rattle.order.proofs.set_link.Reads as set-link-reads
-use Rattle.order.proofs.slot.Reads as slot-reads
+use Rattle.order.proofs.brothers.sort_row.Statement.{statement}
+use Rattle.order.proofs.brothers.sort_row.Tie as tie
+use Rattle.order.proofs.brothers.sort_row.Reads as reads
+use Rattle.order.proofs.brothers.sort_row.Lts as lts
+use Rattle.order.proofs.key.key_of.Reads as key-of-reads
+use Rattle.rows.proofs.link.Reads as link-reads
+use Rattle.order.proofs.brothers.place.Reads as place-reads
+use Rattle.rows.proofs.set_link.Reads as set-link-reads
+use Rattle.order.proofs.children.slot.Reads as slot-reads
 
 key-of-requires : tie.Need-key-of-requires
 key-of-requires c κs =

@@ -1,9 +1,9 @@
 use Rattle.order.proofs.Keys.{written-one, written-two, written-three}
 use borrow.Author.Needs.{needs}
-use Rattle.order.proofs.bytes_of.Statement.{statement}
-use Rattle.order.proofs.bytes_of.Tie as tie
-use Rattle.order.proofs.bytes_of.Reads as reads
-use Rattle.order.proofs.bytes_of.Lts as lts
+use Rattle.order.proofs.key.bytes_of.Statement.{statement}
+use Rattle.order.proofs.key.bytes_of.Tie as tie
+use Rattle.order.proofs.key.bytes_of.Reads as reads
+use Rattle.order.proofs.key.bytes_of.Lts as lts
 
 returns : tie.Need-returns
 returns c = written-one _ (c .if1 .taken)

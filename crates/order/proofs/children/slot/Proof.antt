@@ -1,8 +1,8 @@
 use Rattle.order.proofs.Gathering.{slot-row, slot-top}
-use Rattle.order.proofs.slot.Statement.{statement}
-use Rattle.order.proofs.slot.Tie as tie
-use Rattle.order.proofs.slot.Reads as reads
-use Rattle.order.proofs.slot.Lts as lts
+use Rattle.order.proofs.children.slot.Statement.{statement}
+use Rattle.order.proofs.children.slot.Tie as tie
+use Rattle.order.proofs.children.slot.Reads as reads
+use Rattle.order.proofs.children.slot.Lts as lts
 
 returns : tie.Need-returns
 returns c = slot-row _ _ (c .if1 .taken)
