@@ -14,6 +14,7 @@ use Rattle.meaning.specs.Expression.{Agree}
 use Rattle.meaning.specs.TreeQuery.{Lab, any, lab, Query, TreeQuery, Fits, Selects}
 use Rattle.meaning.specs.Tree.{Forest, bare, tree, Tag, size, Any, treeOf, Under, Lays, MarkOn, OnPair, Takes}
 use Rattle.meaning.specs.Folding.{LabLe, MarkLe, TagLe, Folds, Onto}
+use Rattle.meaning.specs.Image.{labCode}
 use Rattle.theory.proofs.Count.{count, src, dst}
 use Rattle.theory.proofs.Look.{never, look-lt, look-there, look-map}
 use Rattle.theory.proofs.Labels.{LabIn, LabsIn}
@@ -170,20 +171,16 @@ module _ (c : ℕ) (a₀ : Tag) (k₀ : Forest Tag) (oneS : count src (tree a₀
       entry-deep (Onto t u) F none 0 v (w .0) (w .1) (tag-le t v (w .0) (w .1) av on, lays-folds u v (w .0) (w .1) avu lu)
 
 -- ------------------------------------------------------------------ a label that is found nowhere
-abbrev above : Lab → ℕ
-above any = 0
-above (lab l) = suc l
-
 -- above every label of the forest
 abbrev pub fresh : Forest Tag → ℕ
 fresh bare = 0
-fresh (tree a k r) = above (a .lab) + (fresh k + fresh r)
+fresh (tree a k r) = labCode (a .lab) + (fresh k + fresh r)
 
 pub fresh-labels : (f : Forest Tag) (c : ℕ) → fresh f ≤ c → LabsIn (λ l. l ≢ c) f
 fresh-labels bare c le = tt
 fresh-labels (tree a k r) c le = (go (a .lab) (omega arith), fresh-labels k c (omega arith), fresh-labels r c (omega arith))
   where
-    go : (l : Lab) → above l ≤ c → LabIn (λ x. x ≢ c) l
+    go : (l : Lab) → labCode l ≤ c → LabIn (λ x. x ≢ c) l
     go any le′ = tt
     go (lab l) le′ = λ e. omega arith
 

@@ -6,7 +6,6 @@ use mathlib.Core.Logic.{_↔_}
 use mathlib.Core.Bool.{Bool, true, false, _||_}
 use mathlib.Core.Option.{Option, none, some}
 use Prim.Native.Nat.{ℕ}
-use native.Mathlib.Omega.{arith}
 use Rattle.meaning.specs.Document.{Doc, In}
 use Rattle.meaning.specs.Tree.{Forest, bare, tree, Tag, Under, Lays, MarkOn, OnPair, Takes}
 use Rattle.meaning.specs.Normal.{holds, srcIn, dstIn, eitherIn}
