@@ -15,11 +15,13 @@ use Rattle.meaning.specs.Tree.{Forest, bare, tree, Tag, Takes, treeOf, plainTre
 use Rattle.meaning.specs.Folding.{Reduced, Sheds, minimal}
 use Rattle.meaning.specs.Image.{image, ordered, plainImage, minimalImage, minimalTree}
 use Rattle.meaning.specs.Normal.{eitherIn, normal, normalOf, normalForm}
+use Rattle.meaning.specs.Number.{num, got, groups}
 use Rattle.meaning.specs.Word.{Outcome, refused, answered, readWord}
 use Rattle.meaning.specs.Matching.{LaysAt}
 use Rattle.meaning.specs.Promise.{written, Writes, Question, Selected}
 use Rattle.meaning.specs.Program.{programText}
 use Rattle.theory.proofs.Cases as Cases
+use Rattle.theory.proofs.Numbers as Numbers
 use Rattle.theory.proofs.Document as Documents
 use Rattle.theory.proofs.Same as Same
 use Rattle.theory.proofs.Least as Least
@@ -147,6 +149,10 @@ pub minimal-steps : (e : Expr) → ((f : Expr) → Agree (pairs e) (pairs f) →
 minimal-steps = Least.minimal-steps
 
 -- ------------------------------------------------------------------ demand 2: read in again
+-- "Only the shortest writing of a number is read."
+pub only-shortest : (bytes : List ℕ) (v k : ℕ) → Bytes bytes → groups true bytes ≡ got v k → bytes ≡ num v ++ drop k bytes
+only-shortest = Numbers.read-shortest
+
 -- "The normal form has at most 2,048 bytes .. and it is always accepted as a word."
 pub form-accepted : (word : List ℕ) (e : Expr) → readWord word ≡ answered e
     → (length (normalForm (plain e)) ≤ 2048) × (readWord (normalForm (plain e)) ≡ answered (normalOf (plain e)))
