@@ -78,17 +78,20 @@ pub smallest-tree : (e : Expr) (Q : Query) → TreeQuery Q → Agree (pairs e) (
 smallest-tree = Least.smallest-tree
 
 -- two tree queries of one meaning have minimal trees with the same image; with brothers in image order they are one tree
-pub one-minimal-image : (P Q : Query) → TreeQuery P → TreeQuery Q → Agree (Selects P) (Selects Q) → image (minimal (treeOf P)) ≡ image (minimal (treeOf Q))
+pub one-minimal-image : (P Q : Query) → TreeQuery P → TreeQuery Q → Agree (Selects P) (Selects Q)
+    → image (minimal (treeOf P)) ≡ image (minimal (treeOf Q))
 one-minimal-image = Least.one-image
 
-pub one-minimal-tree : (P Q : Query) → TreeQuery P → TreeQuery Q → Agree (Selects P) (Selects Q) → ordered (minimal (treeOf P)) ≡ ordered (minimal (treeOf Q))
+pub one-minimal-tree : (P Q : Query) → TreeQuery P → TreeQuery Q → Agree (Selects P) (Selects Q)
+    → ordered (minimal (treeOf P)) ≡ ordered (minimal (treeOf Q))
 one-minimal-tree = Least.one-query
 
 -- expressions of one meaning have one minimal tree
 pub one-tree : (e f : Expr) → Agree (pairs e) (pairs f) → minimalTree (plain e) ≡ minimalTree (plain f)
 one-tree = Least.one-tree
 
--- paper, theorem 7.1 (2): "P_red is isomorphic to any minimal T expression equivalent to P". A tree query of the same meaning with as few nodes as the
+-- paper, theorem 7.1 (2): "P_red is isomorphic to any minimal T expression equivalent to P". A tree query of the same meaning with as few
+-- nodes as the
 -- minimal tree is that tree, up to the order of brothers (whichever way it was reduced: `any-order`) ..
 pub as-few-nodes : (e : Expr) (Q : Query) → TreeQuery Q → Agree (pairs e) (Selects Q) → nodes Q ≤ size (minimalTree (plain e))
     → ordered (treeOf Q) ≡ minimalTree (plain e)
@@ -159,11 +162,13 @@ pub form-accepted : (word : List ℕ) (e : Expr) → readWord word ≡ answered 
 form-accepted = Again.form-accepted
 
 -- "the normal form read in again gives the same minimal tree", and the same normal form
-pub same-again : (e : Expr) → (minimalTree (plain (normalOf (plain e))) ≡ minimalTree (plain e)) × (normalForm (plain (normalOf (plain e))) ≡ normalForm (plain e))
+pub same-again : (e : Expr)
+    → (minimalTree (plain (normalOf (plain e))) ≡ minimalTree (plain e)) × (normalForm (plain (normalOf (plain e))) ≡ normalForm (plain e))
 same-again = Again.same-again
 
 -- images have "at most 1,538 bytes", and the plain tree of an accepted word has at most 256 nodes
-pub images-short : (word : List ℕ) (e : Expr) → readWord word ≡ answered e → (length (plainImage (plain e)) ≤ 1538) × (length (minimalImage (plain e)) ≤ 1538)
+pub images-short : (word : List ℕ) (e : Expr) → readWord word ≡ answered e
+    → (length (plainImage (plain e)) ≤ 1538) × (length (minimalImage (plain e)) ≤ 1538)
 images-short = Again.images-short
 
 pub plain-nodes : (word : List ℕ) (e : Expr) → readWord word ≡ answered e → size (plainTree (plain e)) ≤ 256
@@ -176,7 +181,8 @@ pub bit-mapping : (D : Doc) (a : Tag) (k : Forest Tag) (v : ℕ)
 bit-mapping = Bits.bit-mapping
 
 -- a pair is selected exactly when the nodes on the ways from s and d up to the top are laid consistently and each of their bits is set
-pub pair-by-bits : (D : Doc) (m n : ℕ) (a : Tag) (k : Forest Tag) → eitherIn a k ≡ true → Takes (tree a k bare) D m n ↔ Pair.Ways D m n (tree a k bare) none
+pub pair-by-bits : (D : Doc) (m n : ℕ) (a : Tag) (k : Forest Tag) → eitherIn a k ≡ true
+    → Takes (tree a k bare) D m n ↔ Pair.Ways D m n (tree a k bare) none
 pair-by-bits = Pair.takes-ways
 
 -- ------------------------------------------------------------------ "That no second answer fits"
@@ -190,7 +196,8 @@ one-reply = Promise.one-reply
 
 -- ------------------------------------------------------------------ "These idle versions have to be refused by the promise"
 -- "one that refuses all words": no accepted word, as P1 to P12 are, is refused in a room that is long enough
-pub refuses-words : (form : Option Query → List ℕ) (word room : List ℕ) (e : Expr) → readWord word ≡ answered e → length (form (plain e)) ≤ length room
+pub refuses-words : (form : Option Query → List ℕ) (word room : List ℕ) (e : Expr) → readWord word ≡ answered e
+    → length (form (plain e)) ≤ length room
     → (number place : ℕ) (after : List ℕ) → ¬ Writes form word room (refused number place) after
 refuses-words = Idle.refuses-words
 
