@@ -12,6 +12,7 @@ use lib.Dec.{ltb, eqb}
 use borrow.Author.Tests.{lt-ltb, le-ltb, ne-eqb, ltb-true, ltb-false, eqb-false}
 use Rattle.meaning.specs.Number.{numF, num, Got, got, broken, more, lone, groups}
 use Rattle.theory.proofs.Look.{never, pick-yes, pick-no}
+use Rattle.theory.proofs.Once.{Bytes}
 
 -- ------------------------------------------------------------------ writing
 -- a number of one group, and one of several
@@ -85,10 +86,6 @@ num-back m n x y e = (same, append-cancel-left (num m) x y (e ∙ ap (λ k. num 
     same = let a = read-num m x in let b = read-num n y in cc
 
 -- ------------------------------------------------------------------ nothing else is read
-abbrev pub Bytes : List ℕ → Type 0
-Bytes [] = Unit {0}
-Bytes (b ∷ bs) = (b < 256) × Bytes bs
-
 lone-back : (first : Bool) (b v k : ℕ) → lone first b ≡ got v k → Ends first b × (b ≡ v) × (1 ≡ k)
 lone-back true b v k e = (tt, cc, cc)
 lone-back false b v k e = go (eqb b 0) refl e
@@ -143,7 +140,7 @@ more-written first b bs w j lt le h = record { ends = ends-more first b w pos; b
 groups-written : (first : Bool) (bs : List ℕ) (v k : ℕ) → Bytes bs → groups first bs ≡ got v k → Written first bs v k
 unfolding groups
 groups-written first [] v k h e = never cc
-groups-written first (b ∷ bs) v k (hb, hs) e = go (ltb b 128) refl e (λ w j. groups-written false bs w j hs)
+groups-written first (b ∷ bs) v k h e = go (ltb b 128) refl e (λ w j. groups-written false bs w j (λ i l. h (suc i) (omega arith)))
   where
     go : (t : Bool) → ltb b 128 ≡ t → cond t (lone first b) (more b (groups false bs)) ≡ got v k
         → ((w j : ℕ) → groups false bs ≡ got w j → Written false bs w j) → Written first (b ∷ bs) v k
@@ -151,7 +148,7 @@ groups-written first (b ∷ bs) v k (hb, hs) e = go (ltb b 128) refl e (λ w j. 
     go false q e′ ih = on (more-back b (groups false bs) v k e′)
       where
         on : (w : ℕ) × (j : ℕ) × (groups false bs ≡ got w j) × (b - 128 + 128 * w ≡ v) × (j + 1 ≡ k) → Written first (b ∷ bs) v k
-        on (w, j, eg, ev, ek) = rw (← ev, ← ek, add-one) (more-written first b bs w j hb (ltb-false b 128 q) (ih w j eg))
+        on (w, j, eg, ev, ek) = rw (← ev, ← ek, add-one) (more-written first b bs w j (h 0 (omega arith)) (ltb-false b 128 q) (ih w j eg))
 
 -- "Only the shortest writing of a number is read."
 pub read-shortest : (bs : List ℕ) (v k : ℕ) → Bytes bs → groups true bs ≡ got v k → bs ≡ num v ++ drop k bs

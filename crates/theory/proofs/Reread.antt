@@ -82,7 +82,8 @@ module _ (word : List ℕ) where
   run-past zero at st le = refl
   run-past (suc k) at st le = rw (le-ltb at (length word) le)
 
-  pub run-one : (k at : ℕ) (st : Pending) → at < length word → run (suc k) word at st ≡ onNumber (λ next u. run k word next u) at st (readNumber word at)
+  pub run-one : (k at : ℕ) (st : Pending) → at < length word
+      → run (suc k) word at st ≡ onNumber (λ next u. run k word next u) at st (readNumber word at)
   unfolding run
   run-one k at st lt = rw (lt-ltb at (length word) lt)
 

@@ -40,7 +40,8 @@ abbrev after : (value weight taken : ℕ) → Got → Got
 after value weight taken (got x n) = got (value + x * weight) (taken + n)
 after value weight taken broken = broken
 
-after-more : (value weight taken b : ℕ) (g : Got) → after value weight taken (more b g) ≡ after (value + (b - 128) * weight) (weight * 128) (taken + 1) g
+after-more : (value weight taken b : ℕ) (g : Got)
+    → after value weight taken (more b g) ≡ after (value + (b - 128) * weight) (weight * 128) (taken + 1) g
 after-more value weight taken b (got x n) =
     let e : (b - 128 + 128 * x) * weight ≡ (b - 128) * weight + x * (weight * 128) = rw (add-mul, mul-comm 128 x, mul-assoc, mul-comm 128 weight) in
     let p : value + (b - 128 + 128 * x) * weight ≡ value + (b - 128) * weight + x * (weight * 128) = omega arith in
