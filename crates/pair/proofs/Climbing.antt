@@ -13,7 +13,7 @@ use Rattle.meaning.specs.Tree.{tree}
 use Rattle.meaning.specs.Matching.{bitAt}
 use Rattle.rows.specs.Rows.{Rows}
 use Rattle.rows.proofs.Rows.{row-opens, row-up, row-inside, row-least}
-use Rattle.pair.specs.Pair.{Asked, Placed, WayLaid, OneWay, TwoWays}
+use Rattle.pair.specs.Pair.{Asked, OnNode, WayLaid, OneWay, TwoWays}
 
 -- ------------------------------------------------------------------ one step up
 module _ (w mark up P : List ℕ) (q : Asked w mark up P) where
@@ -22,7 +22,7 @@ module _ (w mark up P : List ℕ) (q : Asked w mark up P) where
 
   -- the row's own step, and the way from its parent
   pub record Steps (h : ℕ → ℕ) (u : ℕ) : Type 0 where
-    pub here : Placed w up P h u
+    pub here : OnNode w up P h u
     pub rest : 0 < u → WayLaid w up P (q .span) h (getD up u 0)
 
   way-steps : (h : ℕ → ℕ) (u : ℕ) → u < q .rows → WayLaid w up P (q .span) h u → Steps h u
@@ -38,7 +38,7 @@ module _ (w mark up P : List ℕ) (q : Asked w mark up P) where
   steps-way : (h : ℕ → ℕ) (u : ℕ) → u < q .rows → Steps h u → WayLaid w up P (q .span) h u
   steps-way h u l s c a b = go (ℕ-discrete c u)
     where
-      go : Dec (c ≡ u) → Placed w up P h c
+      go : Dec (c ≡ u) → OnNode w up P h c
       go (yes e) = rw e (s .here)
       go (no e) =
           let y = row-up (q .code) mark (q .kids) (q .span) up (q .rows) R u (omega arith) l .0 in
@@ -51,7 +51,8 @@ module _ (w mark up P : List ℕ) (q : Asked w mark up P) where
       record {
         inside = rw (e c a) (g .inside);
         bit = rw (e c a) (g .bit);
-        edge = λ z. let y = row-up (q .code) mark (q .kids) (q .span) up (q .rows) R c z (omega arith) .0 in rw (e c a, e (getD up c 0) (omega arith)) (g .edge z);
+        edge = λ z. let y = row-up (q .code) mark (q .kids) (q .span) up (q .rows) R c z (omega arith) .0 in
+            rw (e c a, e (getD up c 0) (omega arith)) (g .edge z);
       }
 
   -- h with row u on x
@@ -69,7 +70,8 @@ module _ (w mark up P : List ℕ) (q : Asked w mark up P) where
   Step u x = (0 < x) × (bitAt w u x ≡ true)
 
   -- the way up from u by a first step
-  put-way : (h : ℕ → ℕ) (u x : ℕ) → 0 < u → u < q .rows → x < length P → Step u x → h (getD up u 0) ≡ getD P x 0 → WayLaid w up P (q .span) h (getD up u 0)
+  put-way : (h : ℕ → ℕ) (u x : ℕ) → 0 < u → u < q .rows → x < length P → Step u x → h (getD up u 0) ≡ getD P x 0
+      → WayLaid w up P (q .span) h (getD up u 0)
       → WayLaid w up P (q .span) (put h u x) u
   put-way h u x z l lx s e f =
       let y = row-up (q .code) mark (q .kids) (q .span) up (q .rows) R u z l .0 in
@@ -87,10 +89,16 @@ module _ (w mark up P : List ℕ) (q : Asked w mark up P) where
   pub one-top : (x : ℕ) → 0 < q .rows → x < length P → OneWay w up P (q .span) 0 x ↔ (bitAt w 0 x ≡ true)
   one-top x l lx = (
     λ (h, e, f). rw e at (way-steps h 0 l f .here .bit),
-    λ b. (λ _. x, refl, steps-way (λ _. x) 0 l (record { here = record { inside = lx; bit = b; edge = λ z. absurd (omega arith) }; rest = λ z. absurd (omega arith) })),
+    λ b. (
+      λ _. x,
+      refl,
+      steps-way (λ _. x) 0 l
+          (record { here = record { inside = lx; bit = b; edge = λ z. absurd (omega arith) }; rest = λ z. absurd (omega arith) }),
+    ),
   )
 
-  pub one-step : (u x : ℕ) → 0 < u → u < q .rows → x < length P → OneWay w up P (q .span) u x ↔ (Step u x × OneWay w up P (q .span) (getD up u 0) (getD P x 0))
+  pub one-step : (u x : ℕ) → 0 < u → u < q .rows → x < length P
+      → OneWay w up P (q .span) u x ↔ (Step u x × OneWay w up P (q .span) (getD up u 0) (getD P x 0))
   one-step u x z l lx = (to, from)
     where
       to : OneWay w up P (q .span) u x → Step u x × OneWay w up P (q .span) (getD up u 0) (getD P x 0)
