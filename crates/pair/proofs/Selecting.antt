@@ -67,7 +67,7 @@ in-row p tag span i e k h t = go (p (tag i)) refl t
     go true y s = let l = size-holds span (suc i) e k h in (i, omega arith, omega arith, y)
     go false y s = let (j, a, b, r) = holds-row p tag span (suc i) e k h s in (j, omega arith, b, r)
 
-module _ (w mark up P : List ℕ) (q : Asked w mark up P) (m n : ℕ) where
+module _ {w mark up P : List ℕ} (q : Asked w mark up P) (m n : ℕ) where
   abbrev D : Doc
   D = docOf P (q .labels)
 

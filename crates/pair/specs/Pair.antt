@@ -33,6 +33,10 @@ pub record Asked (w mark up parents : List ℕ) : Type 0 where
   pub bits : Bits (treeRows code mark span rows) (docOf parents labels) w
 
 -- ------------------------------------------------------------------ the ways
+-- row u may lie on node x and the row above it on x's parent: u's bit is set there, and x is not the root
+abbrev pub Step : List ℕ → ℕ → ℕ → Type 0
+Step w u x = (0 < x) × (bitAt w u x ≡ true)
+
 module _ (w up parents : List ℕ) where
   -- h puts row c on a node where its bit is set, and, below the top, on a child of its parent's place
   pub record OnNode (h : ℕ → ℕ) (c : ℕ) : Type 0 where
