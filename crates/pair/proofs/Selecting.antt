@@ -17,9 +17,10 @@ use Rattle.meaning.specs.Normal.{holds, inTree, eitherIn}
 use Rattle.meaning.specs.Matching.{docOf, bitAt, OnLabel, LaysAt}
 use Rattle.theory.proofs.Pair.{OnlyIf, Ways, lays-ways}
 use Rattle.rows.specs.Rows.{tagAt, Single, below, shape, mapT, treeRows, Holds, Hung, noRow, Rows}
-use Rattle.rows.proofs.Rows.{size-holds, holds-first, row-up, Top, rows-top}
+use Rattle.rows.proofs.Rows.{size-holds, holds-first, Top, rows-top}
 use Rattle.rows.proofs.Marks.{single-here, single-only}
 use Rattle.pair.specs.Pair.{Asked, OnNode, WayLaid, TwoWays}
+use Rattle.pair.proofs.Climbing.{up-less}
 use Rattle.document.proofs.Tables.{Good, good-table, in-doc, child-doc}
 use Rattle.document.proofs.Nodes.{true-false, can-lie}
 
@@ -117,12 +118,8 @@ module _ {w mark up P : List ℕ} (q : Asked w mark up P) (m n : ℕ) where
               → Dec (j ≡ i) → Dec (j < suc i + size k) → Suited j (b j) × Joined p c v b j
           cases b bi bk br j l d (yes z) _ =
               let o = holds-first (q .span) c e i k r h .0 in
-              let y : LaysAt D (tag i) (mapT tag (below (q .span) i)) x = (
-                under-in D v x under,
-                on .0,
-                rw (← h .0, o)
-                    (lays-ways D m n (mapT tag k) (some x) .0 lk .0),
-              ) in
+              let b : Lays D (OnLabel D) (mapT tag (below (q .span) i)) (some x) = rw (← h .0, o) (lays-ways D m n (mapT tag k) (some x) .0 lk .0) in
+              let y : LaysAt D (tag i) (mapT tag (below (q .span) i)) x = (under-in D v x under, on .0, b) in
               rw (z, bi) ((on .1, on .2, y), inl (g .0, under))
           cases b bi bk br j l d (no z) (yes t) =
               let s = fs j (omega (arith, h .0)) t in (rw (bk j (omega (arith, h .0)) t) (s .0), near (s .1))
@@ -142,12 +139,7 @@ module _ {w mark up P : List ℕ} (q : Asked w mark up P) (m n : ℕ) where
   spread-way h f u l c a b =
       let s = f c (omega arith) (omega arith) in
       let i = in-doc P (q .labels) G (h c) .0 (s .0 .2 .0) in
-      record {
-        inside = i;
-        bit = bit-lays c (h c) (omega arith) i .1 (s .0 .2);
-        edge = λ z. edge (s .1)
-            (row-up (q .code) mark (q .kids) (q .span) up (q .rows) R c z (omega arith) .0);
-      }
+      record { inside = i; bit = bit-lays c (h c) (omega arith) i .1 (s .0 .2); edge = λ z. edge (s .1) (up-less q c z (omega arith)) }
     where
       edge : Joined noRow 0 none h c → getD up c 0 < c → (0 < h c) × (getD P (h c) 0 ≡ h (getD up c 0))
       edge (inl (e, _)) y = let few = R .few in absurd (omega arith)
@@ -162,11 +154,8 @@ module _ {w mark up P : List ℕ} (q : Asked w mark up P) (m n : ℕ) where
   -- the pair is selected: both ways are laid
   takes-ways : Takes (treeRows (q .code) mark (q .span) (q .rows)) D m n → TwoWays w up P (q .span) (q .s .row) m (q .d .row) n
   unfolding treeRows
-  takes-ways t = go (spread noRow 0 (q .rows) (shape (q .span) (q .rows)) none (R .laid) (R .hung) (rw (top .tree-is) (rw (top .tree-is) at t)))
-    where
-      go : (h : ℕ → ℕ) × ((i : ℕ) → 0 ≤ i → i < q .rows → Suited i (h i) × Joined noRow 0 none h i)
-          → TwoWays w up P (q .span) (q .s .row) m (q .d .row) n
-      go (h, f) = (
+  takes-ways t =
+      let (h, f) = spread noRow 0 (q .rows) (shape (q .span) (q .rows)) none (R .laid) (R .hung) (rw (top .tree-is) (rw (top .tree-is) at t)) in (
         h,
         mark-on (tag (q .s .row) .src) (h (q .s .row)) m (single-here (q .s)) (f (q .s .row) (omega arith) (q .s .inside) .0 .0),
         mark-on (tag (q .d .row) .dst) (h (q .d .row)) n (single-here (q .d)) (f (q .d .row) (omega arith) (q .d .inside) .0 .1),
