@@ -42,9 +42,11 @@ fit-code (suc a) L x l ne =
 pub byte-any : (code : ℕ) (L : List ℕ) (from : ℕ) → from + 8 ≤ length L → code ≡ 0 → (k : ℕ) → k < 8 → (bitOf 255 k ≡ true) ↔ Suits code L (from + k)
 byte-any code L from l e k lk = iff-same (all-bits k lk) (fit-any code L (from + k) (omega arith) e)
 
-pub byte-code : (code : ℕ) (L : List ℕ) (from r : ℕ) → from + 8 ≤ length L → (code ≡ 0 → ⊥) → Sifted 255 (λ k. eqb (getD L (from + k) 0) (code - 1)) 8 r
+pub byte-code : (code : ℕ) (L : List ℕ) (from r : ℕ) → from + 8 ≤ length L → (code ≡ 0 → ⊥)
+    → Sifted 255 (λ k. eqb (getD L (from + k) 0) (code - 1)) 8 r
     → (k : ℕ) → k < 8 → (bitOf r k ≡ true) ↔ Suits code L (from + k)
-byte-code code L from r l ne p k lk = iff-same (p .low k lk ∙ ap (λ (x : Bool). x && eqb (getD L (from + k) 0) (code - 1)) (all-bits k lk) ∙ swap (getD L (from + k) 0) (code - 1)) (fit-code code L (from + k) (omega arith) ne)
+byte-code code L from r l ne p k lk = iff-same (p .low k lk ∙ ap (λ (x : Bool). x && eqb (getD L (from + k) 0) (code - 1)) (all-bits k lk)
+    ∙ swap (getD L (from + k) 0) (code - 1)) (fit-code code L (from + k) (omega arith) ne)
   where
     swap : (a b : ℕ) → eqb a b ≡ eqb b a
     swap a b = go (ℕ-discrete a b)
@@ -57,7 +59,8 @@ byte-code code L from r l ne p k lk = iff-same (p .low k lk ∙ ap (λ (x : Bool
 pub row-none : (w : List ℕ) (u : ℕ) (P : ℕ → Type 0) → RowClear w u → RowUpTo w u P 0
 row-none w u P h = record { low = λ v l. absurd (omega arith); high = λ v l m. h v m }
 
-pub row-byte : (u : ℕ) (P : ℕ → Type 0) (i : ℕ) (b : List ℕ) (o : ℕ) → i < 128 → 128 * u + 128 ≤ length b → ((k : ℕ) → k < 8 → (bitOf o k ≡ true) ↔ P (8 * i + k))
+pub row-byte : (u : ℕ) (P : ℕ → Type 0) (i : ℕ) (b : List ℕ) (o : ℕ) → i < 128 → 128 * u + 128 ≤ length b
+    → ((k : ℕ) → k < 8 → (bitOf o k ≡ true) ↔ P (8 * i + k))
     → RowUpTo b u P (8 * i) → RowUpTo (set b (128 * u + i) o) u P (8 * (i + 1))
 row-byte u P i b o li lb f t =
     record { low = λ v l. low v l (ℕ-discrete (v / 8) i); high = λ v l m. store-other b u i o li lb v (λ e. omega arith) ∙ t .high v (omega arith) m }
@@ -68,7 +71,8 @@ row-byte u P i b o li lb f t =
         iff-same (store-here b u i o li lb v e) (rw z at (f (v % 8) (omega arith)))
     low v l (no e) = iff-same (store-other b u i o li lb v e) (t .low v (omega arith))
 
-pub row-node-on : (w : List ℕ) (u : ℕ) (P : ℕ → Type 0) (v : ℕ) (b : List ℕ) → v < mostRows → P v → BitSet w u v b → RowUpTo w u P v → RowUpTo b u P (v + 1)
+pub row-node-on : (w : List ℕ) (u : ℕ) (P : ℕ → Type 0) (v : ℕ) (b : List ℕ) → v < mostRows → P v → BitSet w u v b → RowUpTo w u P v
+    → RowUpTo b u P (v + 1)
 row-node-on w u P v b lv p s t =
     record { low = λ x l. low x l (ℕ-discrete x v); high = λ x l m. s .other x m (λ e. omega arith) ∙ t .high x (omega arith) m }
   where
@@ -83,7 +87,8 @@ row-node-off w u P v lv p t = record { low = λ x l. low x l (ℕ-discrete x v);
     low x l (yes e) = rw e (λ b. true-false (sym b ∙ t .high v (omega arith) lv), λ y. absurd (p y))
     low x l (no e) = t .low x (omega arith)
 
-pub row-all : (w : List ℕ) (u code : ℕ) (L : List ℕ) (e : ℕ) (b : List ℕ) → length L ≤ e → OnlyRow w u b → RowUpTo b u (Suits code L) e → RowIs w u (Suits code L) b
+pub row-all : (w : List ℕ) (u code : ℕ) (L : List ℕ) (e : ℕ) (b : List ℕ) → length L ≤ e → OnlyRow w u b → RowUpTo b u (Suits code L) e
+    → RowIs w u (Suits code L) b
 row-all w u code L e b l o t = record { only = o; bits = λ v lv. go v lv (decLt v e) }
   where
     go : (v : ℕ) → v < mostRows → Dec (v < e) → (bitAt b u v ≡ true) ↔ Suits code L v

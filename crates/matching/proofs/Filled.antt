@@ -65,7 +65,8 @@ module _ (span : List ℕ) where
   unfolding mapT
   child-next u c e l p = go (p .rest) (p .held) (p .laid)
     where
-      go : (F : Forest ℕ) → Holds span c e F → ((code P L : List ℕ) (v : ℕ) → Lies code span P L u v → Below code span P L F v) → Children span u (c + getD span c 0) e
+      go : (F : Forest ℕ) → Holds span c e F → ((code P L : List ℕ) (v : ℕ) → Lies code span P L u v → Below code span P L F v)
+          → Children span u (c + getD span c 0) e
       go bare h f = absurd (omega arith)
       go (tree i k t) h f = record { rest = t; held = holds-first span c e i k t h .2; laid = λ code P L v y. f code P L v y .1 }
 
@@ -82,7 +83,8 @@ module _ (code span P L : List ℕ) (good : goodTable P L ≡ true) where
   abbrev G : Good P L
   G = good-table P L good
 
-  pub partly-start : (n u : ℕ) → Query code span n → u < n → (w b : List ℕ) → RowIs w u (Suits (getD code u 0) L) b → Partly code span P L u (u + 1) (u + getD span u 0) b
+  pub partly-start : (n u : ℕ) → Query code span n → u < n → (w b : List ℕ) → RowIs w u (Suits (getD code u 0) L) b
+      → Partly code span P L u (u + 1) (u + getD span u 0) b
   partly-start n u q l w b r =
       record {
         rest = below span u;
@@ -95,18 +97,22 @@ module _ (code span P L : List ℕ) (good : goodTable P L ≡ true) where
 
   -- what a child c of the row takes away: "every child of u" lies on some child of v
   parent-laid : (c : ℕ) (w : List ℕ) → ((x : ℕ) → x < mostRows → (bitAt w c x ≡ true) ↔ Lies code span P L c x) → (v : ℕ)
-      → ParentOf w c P (length P) v ↔ ((x : ℕ) × Child (docOf P L) v x × OnLabel (docOf P L) (tagAt code [] c) x × Below code span P L (below span c) x)
+      → ParentOf w c P (length P) v ↔ ((x : ℕ) × Child (docOf P L) v x × OnLabel (docOf P L) (tagAt code [] c) x
+      × Below code span P L (below span c) x)
   parent-laid c w row v = (to, from)
     where
-      to : ParentOf w c P (length P) v → (x : ℕ) × Child (docOf P L) v x × OnLabel (docOf P L) (tagAt code [] c) x × Below code span P L (below span c) x
+      to : ParentOf w c P (length P) v
+          → (x : ℕ) × Child (docOf P L) v x × OnLabel (docOf P L) (tagAt code [] c) x × Below code span P L (below span c) x
       to (x, z, l, t, p) = let few = G .few in let y = row x (omega arith) .0 t in (x, child-doc P L G v x .1 (z, l, p), y .1, y .2)
 
-      from : (x : ℕ) × Child (docOf P L) v x × OnLabel (docOf P L) (tagAt code [] c) x × Below code span P L (below span c) x → ParentOf w c P (length P) v
+      from : (x : ℕ) × Child (docOf P L) v x × OnLabel (docOf P L) (tagAt code [] c) x × Below code span P L (below span c) x
+          → ParentOf w c P (length P) v
       from (x, ch, f, y) =
           let few = G .few in let k = child-doc P L G v x .0 ch in (x, k .0, k .1, row x (omega (arith, k .1)) .1 (ch .inside, f, y), k .2)
 
   pub partly-turn : (u c e : ℕ) → c < e → (w b : List ℕ) → ((x : ℕ) → x < mostRows → (bitAt w c x ≡ true) ↔ Lies code span P L c x)
-      → RowIs w u (λ v. (bitAt w u v ≡ true) × ParentOf w c P (length P) v) b → Partly code span P L u c e w → Partly code span P L u (c + getD span c 0) e b
+      → RowIs w u (λ v. (bitAt w u v ≡ true) × ParentOf w c P (length P) v) b → Partly code span P L u c e w
+      → Partly code span P L u (c + getD span c 0) e b
   unfolding mapT
   partly-turn u c e l w b row r p = go (p .rest) (p .held) (p .left)
     where
@@ -115,29 +121,44 @@ module _ (code span P L : List ℕ) (good : goodTable P L ≡ true) where
       go bare h f = absurd (omega arith)
       go (tree i k t) h f =
           let o = holds-first span c e i k t h in
-          record { rest = t; held = o .2; left = λ v lv. (λ (x, y). f v lv .0 (to v lv (o .0) (h .0) x y), λ y. from v lv (o .0) (h .0) (f v lv .1 y)) }
+          record {
+            rest = t;
+            held = o .2;
+            left = λ v lv.
+                (λ (x, y). f v lv .0 (to v lv (o .0) (h .0) x y), λ y. from v lv (o .0) (h .0) (f v lv .1 y));
+          }
         where
-          to : (v : ℕ) → v < mostRows → below span c ≡ k → c ≡ i → bitAt b u v ≡ true → Below code span P L t v → (bitAt w u v ≡ true) × Below code span P L (tree i k t) v
+          to : (v : ℕ) → v < mostRows → below span c ≡ k → c ≡ i → bitAt b u v ≡ true → Below code span P L t v
+              → (bitAt w u v ≡ true) × Below code span P L (tree i k t) v
           to v lv ek ei x y = let q = r .bits v lv .0 x in (q .0, (rw (← ek, ← ei) (parent-laid c w row v .0 (q .1)), y))
 
-          from : (v : ℕ) → v < mostRows → below span c ≡ k → c ≡ i → (bitAt w u v ≡ true) × Below code span P L (tree i k t) v → (bitAt b u v ≡ true) × Below code span P L t v
+          from : (v : ℕ) → v < mostRows → below span c ≡ k → c ≡ i → (bitAt w u v ≡ true) × Below code span P L (tree i k t) v
+              → (bitAt b u v ≡ true) × Below code span P L t v
           from v lv ek ei (x, z) = (r .bits v lv .1 (x, parent-laid c w row v .1 (rw (← ek, ← ei) at (z .0))), z .1)
 
   -- no child is left, or no node: the row is done
-  pub partly-all : (u c e : ℕ) → e ≤ c → (w : List ℕ) → Partly code span P L u c e w → (v : ℕ) → v < mostRows → (bitAt w u v ≡ true) ↔ Lies code span P L u v
+  pub partly-all : (u c e : ℕ) → e ≤ c → (w : List ℕ) → Partly code span P L u c e w → (v : ℕ) → v < mostRows
+      → (bitAt w u v ≡ true) ↔ Lies code span P L u v
   unfolding mapT
   partly-all u c e l w p v lv = go (p .rest) (p .held) (p .left v lv)
     where
-      go : (F : Forest ℕ) → Holds span c e F → ((bitAt w u v ≡ true) × Below code span P L F v) ↔ Lies code span P L u v → (bitAt w u v ≡ true) ↔ Lies code span P L u v
+      go : (F : Forest ℕ) → Holds span c e F → ((bitAt w u v ≡ true) × Below code span P L F v) ↔ Lies code span P L u v
+          → (bitAt w u v ≡ true) ↔ Lies code span P L u v
       go bare h f = (λ t. f .0 (t, tt), λ y. f .1 y .0)
       go (tree i k r) h f = let z = size-holds span c e (tree i k r) h in absurd (omega arith)
 
-  pub partly-clear : (u c e : ℕ) (w : List ℕ) → RowClear w u → Partly code span P L u c e w → (v : ℕ) → v < mostRows → (bitAt w u v ≡ true) ↔ Lies code span P L u v
+  pub partly-clear : (u c e : ℕ) (w : List ℕ) → RowClear w u → Partly code span P L u c e w → (v : ℕ) → v < mostRows
+      → (bitAt w u v ≡ true) ↔ Lies code span P L u v
   partly-clear u c e w z p v lv = (λ t. true-false (sym t ∙ z v lv), λ y. p .left v lv .1 y .0)
 
   -- a child of row u lies nowhere: row u stays clear
-  pub row-nowhere : (n u c : ℕ) (w : List ℕ) → Ready w code span P L n u → u < c → c < n → Needs span u c → RowClear w c → RowIs w u (Lies code span P L u) w
-  row-nowhere n u c w q l m needs z = record { only = only-refl w u; bits = λ v lv. (λ t. true-false (sym t ∙ q .clear v lv), λ y. nowhere (needs code P L v y)) }
+  pub row-nowhere : (n u c : ℕ) (w : List ℕ) → Ready w code span P L n u → u < c → c < n → Needs span u c → RowClear w c
+      → RowIs w u (Lies code span P L u) w
+  row-nowhere n u c w q l m needs z = record {
+    only = only-refl w u;
+    bits = λ v lv.
+        (λ t. true-false (sym t ∙ q .clear v lv), λ y. nowhere (needs code P L v y));
+  }
     where
       nowhere : {A : Type 0} → (x : ℕ) × Lies code span P L c x → A
       nowhere (x, y) =
@@ -150,7 +171,8 @@ module _ (code span P L : List ℕ) (good : goodTable P L ≡ true) where
   rows-kept n u w b o r c v l m lv = iff-same (other-row w b u c v o lv (λ e. omega arith)) (r c v l m lv)
 
   -- a bit that is set stands for a node
-  pub rows-inside : (n u : ℕ) (w : List ℕ) → RowsFrom code span P L n u w → (c : ℕ) → u ≤ c → c < n → (x : ℕ) → x < mostRows → bitAt w c x ≡ true → x < length P
+  pub rows-inside : (n u : ℕ) (w : List ℕ) → RowsFrom code span P L n u w → (c : ℕ) → u ≤ c → c < n → (x : ℕ) → x < mostRows → bitAt w c x ≡ true
+      → x < length P
   rows-inside n u w r c l m x lx t = in-doc P L G x .0 (r c x l m lx .0 t .0)
 
   -- ---------------------------------------------------------------- the whole table
@@ -201,7 +223,8 @@ module _ (code span P L : List ℕ) (good : goodTable P L ≡ true) where
         row c v lc m lv (no e) = iff-same (other-row w b (u - 1) c v (r .only) lv e) (f .behind c v (omega arith) m lv)
 
     -- "marks ignored": the bits are the same whatever the marks are
-    pub filled-all : (w : List ℕ) (u : ℕ) → u ≡ 0 → Filled w₀ code span P L n u w → (mark : List ℕ) → MatchTable (treeRows code mark span n) (docOf P L) w₀ w
+    pub filled-all : (w : List ℕ) (u : ℕ) → u ≡ 0 → Filled w₀ code span P L n u w → (mark : List ℕ)
+        → MatchTable (treeRows code mark span n) (docOf P L) w₀ w
     filled-all w u z f mark = record { same = f .same; bits = λ c v lc lv. bits c v lc lv (decLt c n); later = f .later }
       where
         bits : (c v : ℕ) → c < mostNodes → v < mostRows → Dec (c < n) → (bitAt w c v ≡ true) ↔ CanLie (treeRows code mark span n) c (docOf P L) v
@@ -211,4 +234,8 @@ module _ (code span P L : List ℕ) (good : goodTable P L ≡ true) where
               λ t. let y = b .0 t in k .1 (y .0, y .1, other-marks code [] mark (docOf P L) (below span c) (some v) (y .2)),
               λ y. let x = k .0 y in b .1 (x .0, x .1, other-marks code mark [] (docOf P L) (below span c) (some v) (x .2)),
             )
-        bits c v lc lv (no l) = (λ t. true-false (sym t ∙ f .clear c lc (inr (omega arith)) v lv), λ (x, e, y). never (cc (row-beyond span n (q .laid) code mark c (omega arith))))
+        bits c v lc lv (no l) = (
+          λ t. true-false (sym t ∙ f .clear c lc (inr (omega arith)) v lv),
+          λ (x, e, y). never
+              (cc (row-beyond span n (q .laid) code mark c (omega arith))),
+        )

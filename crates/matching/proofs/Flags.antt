@@ -42,7 +42,11 @@ added-one p h lp = record { same = length-set h p 1; flags = λ v l. go v (ℕ-d
 
 -- what is added, said otherwise
 added-same : (h h′ : List ℕ) (P Q : ℕ → Type 0) → ((v : ℕ) → P v ↔ Q v) → Added h P h′ → Added h Q h′
-added-same h h′ P Q f a = record { same = a .same; flags = λ v l. (λ t. or-map (f v .0) (a .flags v l .0 t), λ y. a .flags v l .1 (or-map (f v .1) y)) }
+added-same h h′ P Q f a = record {
+  same = a .same;
+  flags = λ v l.
+      (λ t. or-map (f v .0) (a .flags v l .0 t), λ y. a .flags v l .1 (or-map (f v .1) y));
+}
 
 -- first these, then those
 added-then : (h₀ h h′ : List ℕ) (P Q : ℕ → Type 0) → Added h₀ P h → Added h Q h′ → Added h₀ (λ v. P v ⊎ Q v) h′
@@ -77,7 +81,8 @@ pub upto-none : (Q : ℕ → ℕ → Type 0) (h : List ℕ) → Added h (Upto Q 
 upto-none Q h = added-none h (Upto Q 0) (λ v (k, l, _). omega arith)
 
 pub upto-more : (Q : ℕ → ℕ → Type 0) (h₀ h h′ : List ℕ) (e : ℕ) → Added h₀ (Upto Q e) h → Added h (Q e) h′ → Added h₀ (Upto Q (e + 1)) h′
-upto-more Q h₀ h h′ e a b = added-same h₀ h′ (λ v. Upto Q e v ⊎ Q e v) (Upto Q (e + 1)) (λ v. (to v, from v)) (added-then h₀ h h′ (Upto Q e) (Q e) a b)
+upto-more Q h₀ h h′ e a b = added-same h₀ h′ (λ v. Upto Q e v ⊎ Q e v) (Upto Q (e + 1)) (λ v. (to v, from v))
+    (added-then h₀ h h′ (Upto Q e) (Q e) a b)
   where
     to : (v : ℕ) → Upto Q e v ⊎ Q e v → Upto Q (e + 1) v
     to v (inl (k, l, y)) = (k, omega arith, y)
@@ -101,9 +106,11 @@ byte-bits b k l e = go (decLt k 8)
         none : bitOf b k ≡ false
         none = unfold bitOf in rw (div-eq-of-lt (lt-of-lt-of-le l (let z : 8 ≤ k = omega arith in pow-mono z)))
 
-pub whole-byte : (P h h′ : List ℕ) (b x : ℕ) → b < 256 → Added h (Upto (λ k v. (bitOf b k ≡ true) × (getD P (x + k) 0 ≡ v)) 8) h′ → Added h (FromByte P b x) h′
+pub whole-byte : (P h h′ : List ℕ) (b x : ℕ) → b < 256 → Added h (Upto (λ k v. (bitOf b k ≡ true) × (getD P (x + k) 0 ≡ v)) 8) h′
+    → Added h (FromByte P b x) h′
 whole-byte P h h′ b x l a =
-    added-same h h′ (Upto (λ k v. (bitOf b k ≡ true) × (getD P (x + k) 0 ≡ v)) 8) (FromByte P b x) (λ v. (λ (k, _, y). (k, y .0, y .1), λ (k, t, z). (k, byte-bits b k l t, (t, z)))) a
+    added-same h h′ (Upto (λ k v. (bitOf b k ≡ true) × (getD P (x + k) 0 ≡ v)) 8) (FromByte P b x)
+    (λ v. (λ (k, _, y). (k, y .0, y .1), λ (k, t, z). (k, byte-bits b k l t, (t, z)))) a
 
 pub empty-byte : (P h : List ℕ) (b x : ℕ) → b ≡ 0 → Added h (FromByte P b x) h
 empty-byte P h b x e = rw e (added-none h (FromByte P 0 x) (λ v (k, t, _). true-false (sym t ∙ zero-bit k)))
@@ -114,7 +121,8 @@ full-inside P b x e i = let z = i 7 (rw e (all-bits 7 (omega arith))) in omega a
 pub full-byte : (P h h′ : List ℕ) (b x : ℕ) → b ≡ 255 → Added h (Upto (λ k v. getD P (x + k) 0 ≡ v) 8) h′ → Added h (FromByte P b x) h′
 full-byte P h h′ b x e a =
     rw e
-    (added-same h h′ (Upto (λ k v. getD P (x + k) 0 ≡ v) 8) (FromByte P 255 x) (λ v. (λ (k, l, z). (k, all-bits k l, z), λ (k, t, z). (k, byte-bits 255 k (omega arith) t, z))) a)
+    (added-same h h′ (Upto (λ k v. getD P (x + k) 0 ≡ v) 8) (FromByte P 255 x)
+    (λ v. (λ (k, l, z). (k, all-bits k l, z), λ (k, t, z). (k, byte-bits 255 k (omega arith) t, z))) a)
 
 -- ------------------------------------------------------------------ one row
 module _ (w : List ℕ) (c : ℕ) (P : List ℕ) (inside : RowInside w c P) where
@@ -130,7 +138,8 @@ module _ (w : List ℕ) (c : ℕ) (P : List ℕ) (inside : RowInside w c P) wher
       let z = byte-inside 0 (omega arith) (rw q lb) (suc k) (rw q (sym (half-bit (getD w (128 * c) 0) k) ∙ e)) in
       omega arith
 
-  pub added-first : (h₀ h : List ℕ) → getD w (128 * c) 0 < 256 → Added h₀ (FromByte P (getD w (128 * c) 0 / 2) 1) h → Added h₀ (ParentOf w c P (8 * 1)) h
+  pub added-first : (h₀ h : List ℕ) → getD w (128 * c) 0 < 256 → Added h₀ (FromByte P (getD w (128 * c) 0 / 2) 1) h
+      → Added h₀ (ParentOf w c P (8 * 1)) h
   added-first h₀ h lb a = added-same h₀ h (FromByte P (getD w (128 * c) 0 / 2) 1) (ParentOf w c P (8 * 1)) (λ v. (to v, from v)) a
     where
       at0 : 128 * c + 0 ≡ 128 * c
@@ -185,7 +194,8 @@ module _ (w : List ℕ) (c : ℕ) (P : List ℕ) (inside : RowInside w c P) wher
       (λ v. (λ (x, z, n, e, p). (x, z, inside x (omega arith) e, e, p), λ (x, z, n, e, p). (x, z, omega arith, e, p))) a
 
 -- what row u keeps
-pub kept : (w b h₀ h : List ℕ) (u e : ℕ) (Q : ℕ → Type 0) → ((i : ℕ) → i < mostRows → getD h₀ i 0 ≡ 0) → ((v : ℕ) → v < mostRows → bitAt w u v ≡ true → v < e) → Added h₀ Q h → Met w u h e b
+pub kept : (w b h₀ h : List ℕ) (u e : ℕ) (Q : ℕ → Type 0) → ((i : ℕ) → i < mostRows → getD h₀ i 0 ≡ 0)
+    → ((v : ℕ) → v < mostRows → bitAt w u v ≡ true → v < e) → Added h₀ Q h → Met w u h e b
     → RowIs w u (λ v. (bitAt w u v ≡ true) × Q v) b
 kept w b h₀ h u e Q z inside a m = record { only = m .only; bits = λ v l. go v l (decLt v e) }
   where

@@ -17,9 +17,10 @@ use Rattle.meaning.specs.Normal.{holds, inTree, eitherIn}
 use Rattle.meaning.specs.Matching.{docOf, bitAt, OnLabel, LaysAt}
 use Rattle.theory.proofs.Pair.{OnlyIf, Ways, lays-ways}
 use Rattle.rows.specs.Rows.{tagAt, Single, below, shape, mapT, treeRows, Holds, Hung, noRow, Rows}
-use Rattle.rows.proofs.Rows.{size-holds, holds-first, row-up, Top, rows-top}
+use Rattle.rows.proofs.Rows.{size-holds, holds-first, Top, rows-top}
 use Rattle.rows.proofs.Marks.{single-here, single-only}
-use Rattle.pair.specs.Pair.{Asked, Placed, WayLaid, TwoWays}
+use Rattle.pair.specs.Pair.{Asked, OnNode, WayLaid, TwoWays}
+use Rattle.pair.proofs.Climbing.{up-less}
 use Rattle.document.proofs.Tables.{Good, good-table, in-doc, child-doc}
 use Rattle.document.proofs.Nodes.{true-false, can-lie}
 
@@ -67,7 +68,7 @@ in-row p tag span i e k h t = go (p (tag i)) refl t
     go true y s = let l = size-holds span (suc i) e k h in (i, omega arith, omega arith, y)
     go false y s = let (j, a, b, r) = holds-row p tag span (suc i) e k h s in (j, omega arith, b, r)
 
-module _ (w mark up P : List ℕ) (q : Asked w mark up P) (m n : ℕ) where
+module _ {w mark up P : List ℕ} (q : Asked w mark up P) (m n : ℕ) where
   abbrev D : Doc
   D = docOf P (q .labels)
 
@@ -109,13 +110,16 @@ module _ (w mark up P : List ℕ) (q : Asked w mark up P) (m n : ℕ) where
           → (f : ℕ → ℕ) × ((j : ℕ) → suc i + size k ≤ j → j < e → Suited j (f j) × Joined p (suc i + size k) v f j)
           → (f : ℕ → ℕ) × ((j : ℕ) → c ≤ j → j < e → Suited j (f j) × Joined p c v f j)
       go (f, fs) (f′, fs′) =
-          let z : i < suc i + size k = omega arith in let (b, bi, bk, br) = stitch i (suc i + size k) x f f′ z in (b, λ j l d. cases b bi bk br j l d (ℕ-discrete j i) (decLt j (suc i + size k)))
+          let z : i < suc i + size k = omega arith in let (b, bi, bk, br) = stitch i (suc i + size k) x f f′ z in
+          (b, λ j l d. cases b bi bk br j l d (ℕ-discrete j i) (decLt j (suc i + size k)))
         where
-          cases : (b : ℕ → ℕ) → b i ≡ x → ((j : ℕ) → i < j → j < suc i + size k → b j ≡ f j) → ((j : ℕ) → suc i + size k ≤ j → b j ≡ f′ j) → (j : ℕ) → c ≤ j → j < e
+          cases : (b : ℕ → ℕ) → b i ≡ x → ((j : ℕ) → i < j → j < suc i + size k → b j ≡ f j) → ((j : ℕ) → suc i + size k ≤ j → b j ≡ f′ j) → (j : ℕ)
+              → c ≤ j → j < e
               → Dec (j ≡ i) → Dec (j < suc i + size k) → Suited j (b j) × Joined p c v b j
           cases b bi bk br j l d (yes z) _ =
               let o = holds-first (q .span) c e i k r h .0 in
-              let y : LaysAt D (tag i) (mapT tag (below (q .span) i)) x = (under-in D v x under, on .0, rw (← h .0, o) (lays-ways D m n (mapT tag k) (some x) .0 lk .0)) in
+              let b : Lays D (OnLabel D) (mapT tag (below (q .span) i)) (some x) = rw (← h .0, o) (lays-ways D m n (mapT tag k) (some x) .0 lk .0) in
+              let y : LaysAt D (tag i) (mapT tag (below (q .span) i)) x = (under-in D v x under, on .0, b) in
               rw (z, bi) ((on .1, on .2, y), inl (g .0, under))
           cases b bi bk br j l d (no z) (yes t) =
               let s = fs j (omega (arith, h .0)) t in (rw (bk j (omega (arith, h .0)) t) (s .0), near (s .1))
@@ -130,11 +134,12 @@ module _ (w mark up P : List ℕ) (q : Asked w mark up P) (m n : ℕ) where
               far (inl (a, un)) = inl (a, rw (br j (omega arith)) un)
               far (inr (a, a′, ch)) = inr (omega (arith, h .0), a′, rw (br (getD up j 0) a, br j (omega arith)) ch)
 
-  spread-way : (h : ℕ → ℕ) → ((i : ℕ) → 0 ≤ i → i < q .rows → Suited i (h i) × Joined noRow 0 none h i) → (u : ℕ) → u < q .rows → WayLaid w up P (q .span) h u
+  spread-way : (h : ℕ → ℕ) → ((i : ℕ) → 0 ≤ i → i < q .rows → Suited i (h i) × Joined noRow 0 none h i) → (u : ℕ) → u < q .rows
+      → WayLaid w up P (q .span) h u
   spread-way h f u l c a b =
       let s = f c (omega arith) (omega arith) in
       let i = in-doc P (q .labels) G (h c) .0 (s .0 .2 .0) in
-      record { inside = i; bit = bit-lays c (h c) (omega arith) i .1 (s .0 .2); edge = λ z. edge (s .1) (row-up (q .code) mark (q .kids) (q .span) up (q .rows) R c z (omega arith) .0) }
+      record { inside = i; bit = bit-lays c (h c) (omega arith) i .1 (s .0 .2); edge = λ z. edge (s .1) (up-less q c z (omega arith)) }
     where
       edge : Joined noRow 0 none h c → getD up c 0 < c → (0 < h c) × (getD P (h c) 0 ≡ h (getD up c 0))
       edge (inl (e, _)) y = let few = R .few in absurd (omega arith)
@@ -149,10 +154,8 @@ module _ (w mark up P : List ℕ) (q : Asked w mark up P) (m n : ℕ) where
   -- the pair is selected: both ways are laid
   takes-ways : Takes (treeRows (q .code) mark (q .span) (q .rows)) D m n → TwoWays w up P (q .span) (q .s .row) m (q .d .row) n
   unfolding treeRows
-  takes-ways t = go (spread noRow 0 (q .rows) (shape (q .span) (q .rows)) none (R .laid) (R .hung) (rw (top .tree-is) (rw (top .tree-is) at t)))
-    where
-      go : (h : ℕ → ℕ) × ((i : ℕ) → 0 ≤ i → i < q .rows → Suited i (h i) × Joined noRow 0 none h i) → TwoWays w up P (q .span) (q .s .row) m (q .d .row) n
-      go (h, f) = (
+  takes-ways t =
+      let (h, f) = spread noRow 0 (q .rows) (shape (q .span) (q .rows)) none (R .laid) (R .hung) (rw (top .tree-is) (rw (top .tree-is) at t)) in (
         h,
         mark-on (tag (q .s .row) .src) (h (q .s .row)) m (single-here (q .s)) (f (q .s .row) (omega arith) (q .s .inside) .0 .0),
         mark-on (tag (q .d .row) .dst) (h (q .d .row)) n (single-here (q .d)) (f (q .d .row) (omega arith) (q .d .inside) .0 .1),
@@ -161,19 +164,21 @@ module _ (w mark up P : List ℕ) (q : Asked w mark up P) (m n : ℕ) where
       )
 
   -- ---------------------------------------------------------------- along laid ways the bits speak of the rest
-  module _ (h : ℕ → ℕ) (hs : h (q .s .row) ≡ m) (hd : h (q .d .row) ≡ n) (ws : WayLaid w up P (q .span) h (q .s .row)) (wd : WayLaid w up P (q .span) h (q .d .row)) where
+  module _ (h : ℕ → ℕ) (hs : h (q .s .row) ≡ m) (hd : h (q .d .row) ≡ n) (ws : WayLaid w up P (q .span) h (q .s .row))
+      (wd : WayLaid w up P (q .span) h (q .d .row)) where
     -- a row with s or d in its part is on a way
     on-way : (i : ℕ) (k : Forest ℕ) → i + getD (q .span) i 0 ≤ q .rows → Holds (q .span) (suc i) (i + getD (q .span) i 0) k
-        → eitherIn (tag i) (mapT tag k) ≡ true → Placed w up P h i
+        → eitherIn (tag i) (mapT tag k) ≡ true → OnNode w up P h i
     on-way i k l hk t = go (inTree (λ a. a .src) (tag i) (mapT tag k)) refl t
       where
-        part : (p : Tag → Bool) → inTree p (tag i) (mapT tag k) ≡ true → (S : Single (λ u. p (tag u)) (q .rows)) → WayLaid w up P (q .span) h (S .row) → Placed w up P h i
+        part : (p : Tag → Bool) → inTree p (tag i) (mapT tag k) ≡ true → (S : Single (λ u. p (tag u)) (q .rows)) → WayLaid w up P (q .span) h (S .row)
+            → OnNode w up P h i
         part p e S f =
             let (j, a, b, y) = in-row p tag (q .span) i (i + getD (q .span) i 0) k hk e in
             let r : j ≡ S .row = single-only S j (omega arith) y in
             f i (omega arith) (omega arith)
 
-        go : (b : Bool) → inTree (λ a. a .src) (tag i) (mapT tag k) ≡ b → (b || inTree (λ a. a .dst) (tag i) (mapT tag k)) ≡ true → Placed w up P h i
+        go : (b : Bool) → inTree (λ a. a .src) (tag i) (mapT tag k) ≡ b → (b || inTree (λ a. a .dst) (tag i) (mapT tag k)) ≡ true → OnNode w up P h i
         go true e y = part (λ a. a .src) e (q .s) ws
         go false e y = part (λ a. a .dst) y (q .d) wd
 
@@ -185,16 +190,17 @@ module _ (w mark up P : List ℕ) (q : Asked w mark up P) (m n : ℕ) where
         go false y = tt
 
     gather : (p c e : ℕ) (F : Forest ℕ) (v : Option ℕ) → Holds (q .span) c e F → Hung up p F → e ≤ q .rows
-        → ((i : ℕ) → getD up i 0 ≡ p → c ≤ i → i < e → Placed w up P h i → Under D v (h i)) → Ways D m n (mapT tag F) v
+        → ((i : ℕ) → getD up i 0 ≡ p → c ≤ i → i < e → OnNode w up P h i → Under D v (h i)) → Ways D m n (mapT tag F) v
     unfolding mapT
     gather p c e bare v held hung le under = tt
     gather p c e (tree i k r) v held hung le under =
         let s = size-holds (q .span) (suc i + size k) e r (held .3) in (
-          only (eitherIn (tag i) (mapT tag k)) refl (omega arith) (gather i (suc i) (suc i + size k) k (some (h i)) (held .2) (hung .1) (omega arith) below-i),
+          only (eitherIn (tag i) (mapT tag k)) refl (omega arith)
+              (gather i (suc i) (suc i + size k) k (some (h i)) (held .2) (hung .1) (omega arith) below-i),
           gather p (suc i + size k) e r v (held .3) (hung .2) le (λ j a b d pl. under j a (omega (arith, held .0)) d pl),
         )
       where
-        below-i : (j : ℕ) → getD up j 0 ≡ i → suc i ≤ j → j < suc i + size k → Placed w up P h j → Child D (h i) (h j)
+        below-i : (j : ℕ) → getD up j 0 ≡ i → suc i ≤ j → j < suc i + size k → OnNode w up P h j → Child D (h i) (h j)
         below-i j a b d pl = let y = pl .edge (omega arith) in child-doc P (q .labels) G (h i) (h j) .1 (y .0, pl .inside, y .1 ∙ ap h a)
 
         only : (b : Bool) → eitherIn (tag i) (mapT tag k) ≡ b → suc i + size k ≤ e → Ways D m n (mapT tag k) (some (h i))
@@ -219,7 +225,8 @@ module _ (w mark up P : List ℕ) (q : Asked w mark up P) (m n : ℕ) where
       let few = q .s .inside in
       let pl = ws 0 (omega arith) (rw (top .span-all) (omega arith)) in
       let y = bit-lays 0 (h 0) rows-some (pl .inside) .0 (pl .bit) in
-      let ways = gather h hs hd ws wd noRow 0 (q .rows) (shape (q .span) (q .rows)) none (R .laid) (R .hung) (omega arith) (λ i _ _ _ p. in-doc P (q .labels) G (h i) .1 (p .inside)) in
+      let ways = gather h hs hd ws wd noRow 0 (q .rows) (shape (q .span) (q .rows)) none (R .laid) (R .hung) (omega arith)
+      (λ i _ _ _ p. in-doc P (q .labels) G (h i) .1 (p .inside)) in
       rw (top .tree-is)
       (lays-ways D m n (tree (tag 0) (mapT tag (below (q .span) 0)) bare) none .1 (((h 0, y .0, y .1, y .2), tt), rw (top .tree-is) at ways))
 

@@ -33,16 +33,20 @@ pub record Asked (w mark up parents : List ℕ) : Type 0 where
   pub bits : Bits (treeRows code mark span rows) (docOf parents labels) w
 
 -- ------------------------------------------------------------------ the ways
+-- row u may lie on node x and the row above it on x's parent: u's bit is set there, and x is not the root
+abbrev pub Step : List ℕ → ℕ → ℕ → Type 0
+Step w u x = (0 < x) × (bitAt w u x ≡ true)
+
 module _ (w up parents : List ℕ) where
   -- h puts row c on a node where its bit is set, and, below the top, on a child of its parent's place
-  pub record Placed (h : ℕ → ℕ) (c : ℕ) : Type 0 where
+  pub record OnNode (h : ℕ → ℕ) (c : ℕ) : Type 0 where
     pub inside : h c < length parents
     pub bit : bitAt w c (h c) ≡ true
     pub edge : 0 < c → (0 < h c) × (getD parents (h c) 0 ≡ h (getD up c 0))
 
   -- .. every row from u up to the top: those that start at u or before it and do not end before it
   abbrev pub WayLaid : List ℕ → (ℕ → ℕ) → ℕ → Type 0
-  WayLaid span h u = (c : ℕ) → c ≤ u → u < c + getD span c 0 → Placed h c
+  WayLaid span h u = (c : ℕ) → c ≤ u → u < c + getD span c 0 → OnNode h c
 
   -- the way up from row u can be laid with u on x
   abbrev pub OneWay : List ℕ → ℕ → ℕ → Type 0

@@ -8,14 +8,14 @@ ghost use Prim.Native.Nat.{ℕ, _≤_, _<_};
 ghost use lib.ListN.{length};
 ghost use Rattle.meaning.specs.Limits.{mostNodes, mostRows};
 ghost use Rattle.meaning.specs.Tree.{Takes};
-ghost use Rattle.meaning.specs.Matching.{docOf, bitAt, tableBytes};
+ghost use Rattle.meaning.specs.Matching.{docOf, tableBytes};
 ghost use Rattle.rows.specs.Rows.{treeRows};
-ghost use Rattle.pair.specs.Pair.{Asked, OneWay};
+ghost use Rattle.pair.specs.Pair.{Asked, Step, OneWay};
 
-// Whether row u may lie on node x and the row above it on x's parent: u's bit is set there, and x is not the root.
+// Whether row u may lie on node x and the row above it on x's parent.
 fn can_climb(w: &[u8], u: usize, x: usize) -> bool
     requires { ⌜ (u < mostNodes) × (x < mostRows) × (tableBytes ≤ length (now w)) ⌝ }
-    ensures { λ r. ⌜ (r ≡ true) ↔ ((0 < x) × (bitAt (now (w .entry)) u x ≡ true)) ⌝ }
+    ensures { λ r. ⌜ (r ≡ true) ↔ Step (now (w .entry)) u x ⌝ }
 {
     if x == 0 {
         return false;

@@ -5,7 +5,9 @@ use Rattle.document.proofs.labels.fits_at.Statement.{statement}
 use Rattle.document.proofs.labels.fits_at.Tie as tie
 
 returns : tie.Need-returns
-returns c = fit-any (c .before .args .code) (c .before .args .labels .now) (c .before .args .x) (c .before .pre) (c .if1 .taken)
+returns c =
+    let s = c .before in
+    fit-any (s .args .code) (s .args .labels .now) (s .args .x) (s .pre) (c .if1 .taken)
 
 returns-2 : tie.Need-returns-2
 returns-2 c =

@@ -9,13 +9,21 @@ use Rattle.document.proofs.labels.label_node.Tie as tie
 
 returns : tie.Need-returns
 returns c =
-    let s = c .before .before .before .before .before .before .before .before in
-    (c .before .before .set-bit .ensures .only, row-node-on _ _ (Suits (s .args .code) (s .args .labels .now)) _ _ (s .pre .1) (c .before .before .before .before .before .fits-at .ensures .0 (c .before .before .before .before .if1 .taken)) (c .before .before .set-bit .ensures) (s .pre .4))
+    let b = c .before .before in
+    let b2 = b .before .before in
+    let s = b2 .before .before .before .before in (
+      b .set-bit .ensures .only,
+      row-node-on _ _ (Suits (s .args .code) (s .args .labels .now)) _ _ (s .pre .1)
+          (b2 .before .fits-at .ensures .0 (b2 .if1 .taken)) (b .set-bit .ensures) (s .pre .4),
+    )
 
 returns-2 : tie.Need-returns-2
 returns-2 c =
-    let s = c .before .before .before .before in
-    (only-refl _ _, row-node-off _ _ (Suits (s .args .code) (s .args .labels .now)) _ (s .pre .1) (λ p. true-false (sym (c .before .fits-at .ensures .1 p) ∙ c .if1 .left)) (s .pre .4))
+    let s = c .before .before .before .before in (
+      only-refl _ _,
+      row-node-off _ _ (Suits (s .args .code) (s .args .labels .now)) _ (s .pre .1)
+          (λ p. true-false (sym (c .before .fits-at .ensures .1 p) ∙ c .if1 .left)) (s .pre .4),
+    )
 
 pub label-node-spec : {M : Type 1} → statement M
 label-node-spec =

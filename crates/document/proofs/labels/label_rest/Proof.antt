@@ -21,30 +21,25 @@ loop-holds c = (c .before .before .pre .3, only-refl _ _, c .before .before .pre
 
 label-node-requires : tie.Need-label-node-requires Inv-loop μ-loop
 label-node-requires c κs =
-    let s = c .before .before .before .before .before in
-    (s .pre .0, omega (arith, s .pre .2), omega (arith, s .pre .1, c .before .before .loop .inv .1 .same), c .before .loop-test .taken, c .before .before .loop .inv .2)
+    let l = c .before .before in
+    let s = l .before .before .before in
+    (s .pre .0, omega (arith, s .pre .2), omega (arith, s .pre .1, l .loop .inv .1 .same), c .before .loop-test .taken, l .loop .inv .2)
 
 loop-again : tie.Need-loop-again Inv-loop μ-loop
-loop-again c = (omega arith, only-then _ _ _ _ (c .before .before .before .before .before .loop .inv .1) (c .before .before .label-node .ensures .0), c .before .before .label-node .ensures .1)
+loop-again c =
+    let b = c .before .before in
+    (omega arith, only-then _ _ _ _ (b .before .before .before .loop .inv .1) (b .label-node .ensures .0), b .label-node .ensures .1)
 
 same-length : tie.Need-same-length Inv-loop μ-loop
 same-length c = c .before .loop .inv .1 .same
 
 returns : tie.Need-returns Inv-loop μ-loop
 returns c =
-    let s = c .before .before .before .before in
-    row-all _ _ (s .args .code) (s .args .labels .now) (c .before .loop .v) _ (omega arith) (c .before .loop .inv .1) (c .before .loop .inv .2)
+    let l = c .before in
+    let s = l .before .before .before in
+    row-all _ _ (s .args .code) (s .args .labels .now) (l .loop .v) _ (omega arith) (l .loop .inv .1) (l .loop .inv .2)
 
 pub label-rest-spec : {M : Type 1} → statement M
 label-rest-spec =
     tie.close
-    (tie.spec
-    Inv-loop
-    μ-loop
-    loop-holds
-    label-node-requires
-    (λ c. search needs)
-    (λ c. search needs)
-    loop-again
-    same-length
-    returns)
+    (tie.spec Inv-loop μ-loop loop-holds label-node-requires (λ c. search needs) (λ c. search needs) loop-again same-length returns)

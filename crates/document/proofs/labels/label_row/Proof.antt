@@ -33,38 +33,29 @@ loop-again c =
     let s = c .before .before .before .before .before in
     let l = c .before .before in (
       omega arith,
-      only-then _ _ _ _ (l .loop .inv .1) (store-only _ _ (l .loop .i) _ (omega (arith, s .pre .2)) (omega (arith, l .loop .inv .1 .same, s .pre .1))),
-      row-byte _ (Suits (s .args .code) (s .args .labels .now)) (l .loop .i) _ _ (omega (arith, s .pre .2)) (omega (arith, l .loop .inv .1 .same, s .pre .1)) (c .label-byte .ensures) (l .loop .inv .2),
+      only-then _ _ _ _ (l .loop .inv .1)
+          (store-only _ _ (l .loop .i) _ (omega (arith, s .pre .2)) (omega (arith, l .loop .inv .1 .same, s .pre .1))),
+      row-byte _ (Suits (s .args .code) (s .args .labels .now)) (l .loop .i) _ _ (omega (arith, s .pre .2))
+          (omega (arith, l .loop .inv .1 .same, s .pre .1)) (c .label-byte .ensures) (l .loop .inv .2),
     )
 
 label-rest-requires : tie.Need-label-rest-requires Inv-loop μ-loop
 label-rest-requires c κs =
-    let s = c .before .before .before .before .before in
     let l = c .before .before in
-    let z : l .loop .i ≡ length (s .args .labels .now) / 8 = omega arith in (s .pre .0, omega (arith, l .loop .inv .1 .same, s .pre .1), s .pre .2, omega arith, rw z at (l .loop .inv .2))
+    let s = l .before .before .before in
+    let z : l .loop .i ≡ length (s .args .labels .now) / 8 = omega arith in
+    (s .pre .0, omega (arith, l .loop .inv .1 .same, s .pre .1), s .pre .2, omega arith, rw z at (l .loop .inv .2))
 
 same-length : tie.Need-same-length Inv-loop μ-loop
 same-length c = c .before .before .label-rest .ensures .only .same ∙ c .before .before .before .before .before .loop .inv .1 .same
 
 returns : tie.Need-returns Inv-loop μ-loop
-returns c = record { only = only-then _ _ _ _ (c .before .before .before .before .before .loop .inv .1) (c .before .before .label-rest .ensures .only); bits = c .before .before .label-rest .ensures .bits }
+returns c =
+    let b = c .before .before in
+    record { only = only-then _ _ _ _ (b .before .before .before .loop .inv .1) (b .label-rest .ensures .only); bits = b .label-rest .ensures .bits }
 
 pub label-row-spec : {M : Type 1} → statement M
 label-row-spec =
     tie.close
-    (tie.spec
-    Inv-loop
-    μ-loop
-    (λ c. search needs)
-    loop-holds
-    (λ c. search needs)
-    label-byte-requires
-    (λ c. search needs)
-    slice-write-w
-    (λ c. search needs)
-    (λ c. search needs)
-    loop-again
-    (λ c. search needs)
-    label-rest-requires
-    same-length
-    returns)
+    (tie.spec Inv-loop μ-loop (λ c. search needs) loop-holds (λ c. search needs) label-byte-requires (λ c. search needs) slice-write-w
+    (λ c. search needs) (λ c. search needs) loop-again (λ c. search needs) label-rest-requires same-length returns)

@@ -21,8 +21,12 @@ loop-holds c = (omega arith, sifted-none _ _)
 
 loop-again : tie.Need-loop-again Inv-loop μ-loop
 loop-again c =
-    let s = c .before .before .before .before .before in
-    (omega arith, sifted-more _ (λ j. eqb (getD (s .args .labels .now) (s .args .from + j) 0) (s .args .label)) _ _ _ (c .before .before .loop-test .taken) (c .before .before .before .loop .inv .1) (c .keep-bit .ensures))
+    let b = c .before .before in
+    let s = b .before .before .before in (
+      omega arith,
+      sifted-more _ (λ j. eqb (getD (s .args .labels .now) (s .args .from + j) 0) (s .args .label)) _ _ _ (b .loop-test .taken)
+          (b .before .loop .inv .1) (c .keep-bit .ensures),
+    )
 
 returns : tie.Need-returns Inv-loop μ-loop
 returns c = let z : c .before .loop .k ≡ 8 = omega arith in rw z at (c .before .loop .inv .1)
@@ -30,15 +34,5 @@ returns c = let z : c .before .loop .k ≡ 8 = omega arith in rw z at (c .before
 pub same-byte-spec : {M : Type 1} → statement M
 same-byte-spec =
     tie.close
-    (tie.spec
-    Inv-loop
-    μ-loop
-    loop-holds
-    (λ c. search needs)
-    (λ c. search needs)
-    (λ c. search needs)
-    (λ c κs. search needs)
-    (λ c. search needs)
-    (λ c. search needs)
-    loop-again
-    returns)
+    (tie.spec Inv-loop μ-loop loop-holds (λ c. search needs) (λ c. search needs) (λ c. search needs) (λ c κs. search needs)
+    (λ c. search needs) (λ c. search needs) loop-again returns)

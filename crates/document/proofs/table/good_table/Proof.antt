@@ -26,8 +26,9 @@ loop-holds c = (omega arith, sofar-none _ _ (c .before .before .if1 .left) (omeg
 
 loop-again : tie.Need-loop-again Inv-loop μ-loop
 loop-again c =
-    let l = c .before .before .before .before .loop in
-    (omega arith, sofar-more _ _ (l .good) _ _ (c .before .before .before .loop-test .taken) (omega arith) (l .inv .1) (c .still-good .ensures))
+    let b = c .before .before .before in
+    let l = b .before .loop in
+    (omega arith, sofar-more _ _ (l .good) _ _ (b .loop-test .taken) (omega arith) (l .inv .1) (c .still-good .ensures))
 
 returns-4 : tie.Need-returns-4 Inv-loop μ-loop
 returns-4 c = sofar-all _ _ (c .before .loop .good) (c .before .loop .x) (omega arith) (omega arith) (c .before .loop .inv .1)
@@ -35,20 +36,5 @@ returns-4 c = sofar-all _ _ (c .before .loop .good) (c .before .loop .x) (omega 
 pub good-table-spec : {M : Type 1} → statement M
 good-table-spec =
     tie.close
-    (tie.spec
-    Inv-loop
-    μ-loop
-    returns
-    returns-2
-    returns-3
-    loop-holds
-    (λ c. search needs)
-    (λ c. search needs)
-    (λ c. search needs)
-    (λ c. search needs)
-    (λ c. search needs)
-    (λ c κs. search needs)
-    (λ c. search needs)
-    (λ c. search needs)
-    loop-again
-    returns-4)
+    (tie.spec Inv-loop μ-loop returns returns-2 returns-3 loop-holds (λ c. search needs) (λ c. search needs) (λ c. search needs)
+    (λ c. search needs) (λ c. search needs) (λ c κs. search needs) (λ c. search needs) (λ c. search needs) loop-again returns-4)

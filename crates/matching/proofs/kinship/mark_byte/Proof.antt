@@ -5,7 +5,9 @@ use Rattle.matching.proofs.kinship.mark_byte.Statement.{statement}
 use Rattle.matching.proofs.kinship.mark_byte.Tie as tie
 
 returns : tie.Need-returns
-returns c = empty-byte (c .before .before .before .args .parents .now) _ _ (c .before .before .before .args .first) (c .if1 .taken)
+returns c =
+    let s = c .before .before .before in
+    empty-byte (s .args .parents .now) _ _ (s .args .first) (c .if1 .taken)
 
 mark-eight-requires : tie.Need-mark-eight-requires
 mark-eight-requires c κs =
@@ -14,17 +16,11 @@ mark-eight-requires c κs =
 
 returns-2 : tie.Need-returns-2
 returns-2 c =
-    let s = c .before .before .before .before .before .before .before .before in
-    full-byte (s .args .parents .now) _ _ _ (s .args .first) (c .before .before .before .before .if2 .taken) (c .before .before .mark-eight .ensures)
+    let b = c .before .before in
+    let s = b .before .before .before .before .before .before in
+    full-byte (s .args .parents .now) _ _ _ (s .args .first) (b .before .before .if2 .taken) (b .mark-eight .ensures)
 
 pub mark-byte-spec : {M : Type 1} → statement M
 mark-byte-spec =
     tie.close
-    (tie.spec
-    returns
-    mark-eight-requires
-    (λ c. search needs)
-    returns-2
-    (λ c κs. search needs)
-    (λ c. search needs)
-    (λ c. search needs))
+    (tie.spec returns mark-eight-requires (λ c. search needs) returns-2 (λ c κs. search needs) (λ c. search needs) (λ c. search needs))

@@ -30,8 +30,12 @@ mark-node-requires c κs =
 
 loop-again : tie.Need-loop-again Inv-loop μ-loop
 loop-again c =
-    let s = c .before .before .before .before .before .before .before .before in
-    (omega arith, upto-more (λ j v. getD (s .args .parents .now) (s .args .first + j) 0 ≡ v) _ _ _ _ (c .before .before .before .before .before .loop .inv .1) (c .before .before .mark-node .ensures))
+    let l = c .before .before .before .before .before in
+    let s = l .before .before .before in (
+      omega arith,
+      upto-more (λ j v. getD (s .args .parents .now) (s .args .first + j) 0 ≡ v) _ _ _ _ (l .loop .inv .1)
+          (c .before .before .mark-node .ensures),
+    )
 
 same-length : tie.Need-same-length Inv-loop μ-loop
 same-length c = c .before .loop .inv .1 .same
@@ -42,14 +46,5 @@ returns c = let z : c .before .loop .k ≡ 8 = omega arith in rw z at (c .before
 pub mark-eight-spec : {M : Type 1} → statement M
 mark-eight-spec =
     tie.close
-    (tie.spec
-    Inv-loop
-    μ-loop
-    loop-holds
-    add-mark-node
-    mark-node-requires
-    (λ c. search needs)
-    (λ c. search needs)
-    loop-again
-    same-length
+    (tie.spec Inv-loop μ-loop loop-holds add-mark-node mark-node-requires (λ c. search needs) (λ c. search needs) loop-again same-length
     returns)

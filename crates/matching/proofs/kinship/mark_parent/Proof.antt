@@ -12,8 +12,9 @@ mark-node-requires c κs =
 
 returns : tie.Need-returns
 returns c =
-    let set = sym (c .before .before .before .before .before .bit-of .ensures) ∙ c .before .before .before .before .if1 .taken in
-    added-set _ _ _ _ _ set (c .before .before .mark-node .ensures)
+    let b = c .before .before in
+    let set = sym (b .before .before .before .bit-of .ensures) ∙ b .before .before .if1 .taken in
+    added-set _ _ _ _ _ set (b .mark-node .ensures)
 
 returns-2 : tie.Need-returns-2
 returns-2 c = added-not _ _ _ _ (sym (c .before .bit-of .ensures) ∙ c .if1 .left)

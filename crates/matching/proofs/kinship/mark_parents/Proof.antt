@@ -29,8 +29,12 @@ mark-parent-requires c κs =
 
 loop-again : tie.Need-loop-again Inv-loop μ-loop
 loop-again c =
-    let s = c .before .before .before .before .before .before .before .before in
-    (omega arith, upto-more (λ j v. (bitOf (s .args .byte) j ≡ true) × (getD (s .args .parents .now) (s .args .first + j) 0 ≡ v)) _ _ _ _ (c .before .before .before .before .before .loop .inv .1) (c .before .before .mark-parent .ensures))
+    let l = c .before .before .before .before .before in
+    let s = l .before .before .before in (
+      omega arith,
+      upto-more (λ j v. (bitOf (s .args .byte) j ≡ true) × (getD (s .args .parents .now) (s .args .first + j) 0 ≡ v)) _ _ _ _
+          (l .loop .inv .1) (c .before .before .mark-parent .ensures),
+    )
 
 same-length : tie.Need-same-length Inv-loop μ-loop
 same-length c = c .before .loop .inv .1 .same
@@ -38,19 +42,11 @@ same-length c = c .before .loop .inv .1 .same
 returns : tie.Need-returns Inv-loop μ-loop
 returns c =
     let s = c .before .before .before .before in
-    let z : c .before .loop .k ≡ 8 = omega arith in whole-byte (s .args .parents .now) _ _ (s .args .byte) (s .args .first) (omega arith) (rw z at (c .before .loop .inv .1))
+    let z : c .before .loop .k ≡ 8 = omega arith in whole-byte (s .args .parents .now) _ _ (s .args .byte) (s .args .first) (omega arith)
+    (rw z at (c .before .loop .inv .1))
 
 pub mark-parents-spec : {M : Type 1} → statement M
 mark-parents-spec =
     tie.close
-    (tie.spec
-    Inv-loop
-    μ-loop
-    loop-holds
-    (λ c. search needs)
-    mark-parent-requires
-    (λ c. search needs)
-    (λ c. search needs)
-    loop-again
-    same-length
-    returns)
+    (tie.spec Inv-loop μ-loop loop-holds (λ c. search needs) mark-parent-requires (λ c. search needs) (λ c. search needs) loop-again
+    same-length returns)
