@@ -77,7 +77,9 @@ module _ (D : Doc) (m n : ℕ) (Q : Query) (q : TreeQuery Q) (places : Forest �
   Found v k i = LiesAt D (OnPair D m n) v (tagOf Q i) (grow (N - k) Q i) (found k i)
 
   root-found : (i : ℕ) (l : Lab) → at T i ≡ some (node none l) → Found none 0 i
-  root-found i l e = let z : N - 0 ≡ N = omega arith in rw z (seek-lies D (OnPair D m n) (tagOf Q) (grow N Q) (kidsFrom none T 0) places none i lies (kid-of-row none T i l e))
+  root-found i l e =
+      let z : N - 0 ≡ N = omega arith in
+      rw z (seek-lies D (OnPair D m n) (tagOf Q) (grow N Q) (kidsFrom none T 0) places none i lies (kid-of-row none T i l e))
 
   kid-found : (k i p : ℕ) (l : Lab) → at T i ≡ some (node (some p) l) → k < N
       → LiesOn D (OnPair D m n) (grow (N - k) Q p) ((found k p) .1) (some ((found k p) .0))

@@ -46,7 +46,8 @@ getD-look (y ∷ xs) (suc i) x d e = getD-look xs i x d e
 
 module _ (c : ℕ) (F : Forest Tag) where
   canon-row : (i : ℕ) (x : Entry) → look (entries F none 0) i ≡ some x → docRow (canon c F) i ≡ docEntry c x
-  canon-row i x e = getD-look (canon c F) i (docEntry c x) (record { parent = 0; label = 0 }) (look-map (docEntry c) (entries F none 0) i ∙ ap (mapped (docEntry c)) e)
+  canon-row i x e =
+      getD-look (canon c F) i (docEntry c x) (record { parent = 0; label = 0 }) (look-map (docEntry c) (entries F none 0) i ∙ ap (mapped (docEntry c)) e)
 
   canon-in : (i : ℕ) (x : Entry) → look (entries F none 0) i ≡ some x → In (canon c F) i
   canon-in i x e = let l = length-map (entries F none 0) (docEntry c) in let z = look-lt (entries F none 0) i e in omega arith
@@ -159,7 +160,8 @@ module _ (c : ℕ) (a₀ : Tag) (k₀ : Forest Tag) (oneS : count src (tree a₀
 
   lays-folds : (g : Forest Tag) (i : ℕ) (y : Entry) → look S i ≡ some y → LabsIn (λ l. l ≢ c) g → Lays D On g (some i) → Folds g (y .kids)
   lays-folds bare i y e av x = tt
-  lays-folds (tree t u r) i y e (av, avu, avr) ((j, ch, on, lu), lr) = (go (child-entry i j y e ch) (λ x ex. lays-folds u j x ex avu lu), lays-folds r i y e avr lr)
+  lays-folds (tree t u r) i y e (av, avu, avr) ((j, ch, on, lu), lr) =
+      (go (child-entry i j y e ch) (λ x ex. lays-folds u j x ex avu lu), lays-folds r i y e avr lr)
     where
       go : (x : Entry) × (look S j ≡ some x) × Has (x .tag) (x .kids) (y .kids) → ((x : Entry) → look S j ≡ some x → Folds u (x .kids))
           → Any (Onto t u) (y .kids)
@@ -203,7 +205,8 @@ module _ (D : Doc) (m n : ℕ) (b : Tag) (j : Forest Tag) where
   deep-lays : (f : Forest Tag) (v : Option ℕ) → Deep (Onto b j) f → Lays D (OnPair D m n) f v
       → (w : ℕ) × In D w × OnPair D m n b w × Lays D (OnPair D m n) j (some w)
   deep-lays bare v x l = absurd x
-  deep-lays (tree a k r) v (inl (p, o)) ((w, u, on, l), l′) = (w, under-in v w u, on-pair-mono D m n b a w p on, folds-lays D (OnPair D m n) (on-pair-mono D m n) j k (some w) o l)
+  deep-lays (tree a k r) v (inl (p, o)) ((w, u, on, l), l′) =
+      (w, under-in v w u, on-pair-mono D m n b a w p on, folds-lays D (OnPair D m n) (on-pair-mono D m n) j k (some w) o l)
   deep-lays (tree a k r) v (inr (inl x)) ((w, u, on, l), l′) = deep-lays k (some w) x l
   deep-lays (tree a k r) v (inr (inr x)) (l, l′) = deep-lays r v x l′
 

@@ -57,7 +57,8 @@ Part S f p b = (i : ℕ) (x : Entry) → look (entries f p b) i ≡ some x → l
 
 module _ (S : List Entry) (a : Tag) (k r : Forest Tag) (p : Option ℕ) (b : ℕ) (part : Part S (tree a k r) p b) where
   pub part-head : look S b ≡ some (record { up = p; tag = a; kids = k })
-  part-head = subst (λ z. look S z ≡ some (record { up = p; tag = a; kids = k })) (let q : b + 0 ≡ b = omega arith in q) (part 0 (record { up = p; tag = a; kids = k }) refl)
+  part-head =
+      subst (λ z. look S z ≡ some (record { up = p; tag = a; kids = k })) (let q : b + 0 ≡ b = omega arith in q) (part 0 (record { up = p; tag = a; kids = k }) refl)
 
   pub part-kids : Part S k (some b) (suc b)
   part-kids i x e =

@@ -85,7 +85,8 @@ module _ {T : Table} {x y : ℕ} {u v : Option ℕ} {l k : Lab} (w : Merge T x y
     rowI = la .row;
     rowJ = lb .row;
     apart = c .apart;
-    forced = λ h con e. now h e (la .toPlace) ∙ c .forced (λ z. h (back y z)) (congruent-merged w m h e con) (close h con e) ∙ sym (now h e (lb .toPlace));
+    forced =
+        λ h con e. now h e (la .toPlace) ∙ c .forced (λ z. h (back y z)) (congruent-merged w m h e con) (close h con e) ∙ sym (now h e (lb .toPlace));
   }
     where
       la : LabelOf T (moved x y) (c .i) (c .a)
@@ -160,7 +161,9 @@ links-right n rec {T} {x} {y} (some p) (some q) {l} {k} m w em cl le = through w
     N = merged T x y (some p) m
 
     closed : Closed N
-    closed i j l₀ e = let a = edge-merged w m i j l₀ e in subst (Live N) (a .toHigh) (live-merged w m em (a .high) (cl (a .low) (a .high) (a .bears) (a .row)))
+    closed i j l₀ e =
+        let a = edge-merged w m i j l₀ e in
+        subst (Live N) (a .toHigh) (live-merged w m em (a .high) (cl (a .low) (a .high) (a .bears) (a .row)))
 links-right n rec {T} {x} {y} (some p) none m w em cl le =
     through w m em 0 0 (λ t e p₀ q₀ ep eq. never cc) (λ h con e. refl) (some (unchanged (merged T x y (some p) m))) (quotient-self (merged T x y (some p) m) 0 0 refl)
 links-right n rec {T} {x} {y} none v m w em cl le =

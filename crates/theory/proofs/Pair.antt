@@ -53,7 +53,8 @@ module _ (D : Doc) (m n : ℕ) where
   -- to be laid with the marks is to be laid without them, and along the ways with them
   pub lays-ways : (f : Forest Tag) (v : Option ℕ) → Lays D (OnPair D m n) f v ↔ (Lays D (OnLabel D) f v × Ways D m n f v)
   lays-ways bare v = (λ _. (tt, tt), λ _. tt)
-  lays-ways (tree b j r) v = (λ l. down (eitherIn b j) (λ w. lays-ways j (some w)) (lays-ways r v) l, λ (l, x). up (eitherIn b j) refl (λ w. lays-ways j (some w)) (lays-ways r v) l x)
+  lays-ways (tree b j r) v =
+      (λ l. down (eitherIn b j) (λ w. lays-ways j (some w)) (lays-ways r v) l, λ (l, x). up (eitherIn b j) refl (λ w. lays-ways j (some w)) (lays-ways r v) l x)
     where
       Here : Type 0
       Here = (w : ℕ) × Under D v w × OnPair D m n b w × Lays D (OnLabel D) j (some w) × Ways D m n j (some w)

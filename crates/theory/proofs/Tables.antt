@@ -64,7 +64,9 @@ module _ (a : Tag) (k : Forest Tag) where
       go (x, ex, eu) = up (entry-parent a k i x ex)
         where
           up : Below (entries F none 0) (suc i) x → (p < suc i) × Live T p
-          up (j, y, lt, ey, ej, h) = let z : j ≡ p = cc in (omega arith, (y .up, y .tag .lab, row-at F p y (subst (λ n. look (entries F none 0) n ≡ some y) z ey)))
+          up (j, y, lt, ey, ej, h) =
+              let z : j ≡ p = cc in
+              (omega arith, (y .up, y .tag .lab, row-at F p y (subst (λ n. look (entries F none 0) n ≡ some y) z ey)))
 
   top-first : (i : ℕ) → Root T i → i ≡ 0
   top-first zero r = refl
@@ -103,7 +105,9 @@ kids u xs b = kidsFrom u (map rowOf xs) b
 
 kids-append : (u : Option ℕ) (xs ys : List Entry) (b : ℕ) → kids u (xs ++ ys) b ≡ kids u xs b ++ kids u ys (b + length xs)
 kids-append u [] ys b = ap (kids u ys) (let z : b ≡ b + 0 = omega arith in z)
-kids-append u (x ∷ xs) ys b = let z : suc b + length xs ≡ b + suc (length xs) = omega arith in go (sameLink u (x .up)) (rw z at (kids-append u xs ys (suc b)))
+kids-append u (x ∷ xs) ys b =
+    let z : suc b + length xs ≡ b + suc (length xs) = omega arith in
+    go (sameLink u (x .up)) (rw z at (kids-append u xs ys (suc b)))
   where
     go : (t : Bool) → kids u (xs ++ ys) (suc b) ≡ kids u xs (suc b) ++ kids u ys (b + suc (length xs))
         → choose t b (kids u (xs ++ ys) (suc b)) ≡ choose t b (kids u xs (suc b)) ++ kids u ys (b + suc (length xs))

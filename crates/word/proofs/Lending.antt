@@ -46,16 +46,19 @@ module _ {M : Type 1} {𝓤 : URA M} {H : Heap 𝓤} {A : Atoms 𝓤} {K : Type 
   place-owned t m fits = owned t usize (Is usize) (uint-makes 𝓤 H A W w64) m _ (refl, fits)
 
   pub cursor-owned : K → (m : ℕ) → m < 2 ^ 64 → Step K W (‵ (T.the-row .own (standing m) (machine m ∷ [])) ∷ Γ) G Γ G
-  cursor-owned t m fits = owned t T.the-row (Is T.the-row) ((LL.makes T.the-type T′.the-plain) 𝓤 H A) (standing m) _ (LL.owes T.the-type T′.the-laws (standing m) ((refl, fits), tt))
+  cursor-owned t m fits =
+      owned t T.the-row (Is T.the-row) ((LL.makes T.the-type T′.the-plain) 𝓤 H A) (standing m) _ (LL.owes T.the-type T′.the-laws (standing m) ((refl, fits), tt))
 
   -- what lies in memory where a cursor is owned is the cursor's machine value
   pub cursor-spelt : K → (c : Cursor) (vs : List Val) (b o : ℕ)
       → Step K W (‵ (cellAt fullShare (T.the-row .mir) (machine (c .at) ∷ []) b o) ∷ ‵ (T.the-row .own c (machine (c .at) ∷ [])) ∷ Γ) G (‵ (cellAt fullShare (T.the-row .mir) vs b o) ∷ ‵ (T.the-row .own c vs) ∷ Γ) G
-  cursor-spelt t c vs b o = spelt t T.the-row (Is T.the-row) (shows 𝓤 H A T.the-row) (LL.vals T.the-type T′.the-laws) (LL.tells T.the-type T′.the-laws) fullShare c vs b o
+  cursor-spelt t c vs b o =
+      spelt t T.the-row (Is T.the-row) (shows 𝓤 H A T.the-row) (LL.vals T.the-type T′.the-laws) (LL.tells T.the-type T′.the-laws) fullShare c vs b o
 
   -- the place of a cursor that is owned fits a word of the machine
   pub cursor-fits : K → (c : Cursor) → (c .at < 2 ^ 64 → Seq K W Γ G) → Seq K W (‵ (T.the-row .own c (machine (c .at) ∷ [])) ∷ Γ) G
-  cursor-fits t c k = facts t T.the-row (Is T.the-row) (shows 𝓤 H A T.the-row) c (machine (c .at) ∷ []) (λ is. k (LL.owed T.the-type T′.the-laws c _ is .0 .1))
+  cursor-fits t c k =
+      facts t T.the-row (Is T.the-row) (shows 𝓤 H A T.the-row) c (machine (c .at) ∷ []) (λ is. k (LL.owed T.the-type T′.the-laws c _ is .0 .1))
 
   -- what was read: plain data too
   pub read-owned : K → (read : Read) (u : Val) → Is S.the-row read (u ∷ []) → Step K W (‵ (S.the-row .own read (u ∷ [])) ∷ Γ) G Γ G

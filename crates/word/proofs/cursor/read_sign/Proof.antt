@@ -104,7 +104,8 @@ module _ {M : Type 1} (𝓤 : URA M) (H : Heap 𝓤) (A : Atoms 𝓤) (at-mem : 
     to = (((κ′, tt), (q′, tt), tt, (w, (h .at, tt)), passed), tt)
 
     asked : ent 𝓤 (onEntry 𝓤 H A rn.signature (κ′, tt) (q′, tt) (w, (h .at, tt)) passed) (ReadNumber .pre to)
-    asked = qed W ((‵ (flft κ′ q′) ⊛ ‵ ftrue) ∷ ‵ (owns (ShrSlice (named 0) κ′ u8 ∷ usize ∷ []) (w, (h .at, tt)) passed) ∷ []) ∵ join ! $ frame ! $ done !
+    asked =
+        qed W ((‵ (flft κ′ q′) ⊛ ‵ ftrue) ∷ ‵ (owns (ShrSlice (named 0) κ′ u8 ∷ usize ∷ []) (w, (h .at, tt)) passed) ∷ []) ∵ join ! $ frame ! $ done !
 
     abbrev Found : Read → Type 0
     Found r = gotOf (h .at) r ≡ readNumber (now w) (h .at)
