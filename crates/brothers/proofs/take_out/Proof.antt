@@ -17,4 +17,5 @@ take-out-spec =
     (λ c. search needs)
     (λ c. search needs)
     (λ c. search needs)
-    (λ c. record { ups = rw (c .before .link .ensures .0); list = refl }))
+    (λ c.
+    record { ups = rw (c .before .link .ensures .0); list = refl }))
