@@ -4,7 +4,7 @@ PREFIX ?= /usr/local
 SECONDS ?= 50
 SEED ?= 20011
 
-.PHONY: example test bench compare install
+.PHONY: example test bench compare corpus install
 
 # The main job: proves and builds the program, and brings one query to its smallest form.
 example:
@@ -23,7 +23,12 @@ bench:
 # The library beside the second implementation, for as long as one likes: make compare SEED=7 SECONDS=3600
 compare:
 	tools/archive
-	cargo run --release --quiet --manifest-path reference/compare/Cargo.toml --bin compare -- --seed $(SEED) --seconds $(SECONDS)
+	cargo run --release --quiet --manifest-path reference/Cargo.toml --package archive -- --seed $(SEED) --seconds $(SECONDS)
+
+# The corpus that crates/vectors goes through, and the line that it ends with. Without a change of the second implementation both stay as they are.
+corpus:
+	cargo run --release --quiet --manifest-path reference/Cargo.toml --bin corpus -- crates/vectors/stdin
+	cargo run --release --quiet --manifest-path reference/Cargo.toml --bin corpus -- --line crates/vectors/stdin >crates/vectors/stdout
 
 # The archive and its header.
 install:

@@ -1,8 +1,11 @@
 /* Compares the library, the plain C implementation and libxml2 in one run, and
  * prints times, ratios, growth and stack. See README.md. */
 #include <stdio.h>
+#include <string.h>
+#include <sys/utsname.h>
 
 #include "contestants.h"
+#include "deep.h"
 #include "report.h"
 #include "stack.h"
 
@@ -169,37 +172,72 @@ static void print_pair_growths(void) {
 
 /* ---- stack ---- */
 
-static size_t larger(size_t a, size_t b) { return a > b ? a : b; }
+/* The writers, and then the pair question. */
+enum { CALLS = WRITERS + 1 };
 
-/* The deepest of all queries, the pair question on the longest chain. */
-static void print_stack(void) {
-  static const char *const names[WRITERS + 1] = {"plain_image", "minimal_image", "normal_form",
-                                                 "selects"};
-  static struct saved_query q;
-  static struct document doc;
-  static struct writing w;
-  static struct asking a;
-  pair_call *const selects[IMPLEMENTATIONS] = {library_calls.selects, plain_calls.selects};
-  make_document(CHAIN, PATHPLUS_MAX_ROWS, &doc);
-  puts("\nDeepest stack over all queries above, bytes\n");
-  for (unsigned i = 0; i < IMPLEMENTATIONS; i++) {
-    size_t deepest[WRITERS + 1] = {0};
-    for (unsigned k = 0; k < QUERIES; k++) {
-      make_query(k, &q);
-      for (enum writer which = PLAIN_IMAGE; which < WRITERS; which++) {
-        w = writing_of(i, which, &q);
-        deepest[which] = larger(deepest[which], stack_of_call(call_writer, &w));
-      }
-      a = (struct asking){.call = selects[i], .q = &q, .doc = &doc};
-      deepest[WRITERS] = larger(deepest[WRITERS], stack_of_call(call_pair, &a));
-    }
-    printf("%-8s", contestant_names[i]);
-    for (unsigned k = 0; k <= WRITERS; k++) printf("  %s %zu", names[k], deepest[k]);
-    puts("");
-  }
+/* The deepest stack of a call so far, and the query that took it. */
+struct deepest {
+  size_t bytes;
+  const char *query;
+  unsigned steps;
+};
+
+static void measure(struct deepest *d, void (*call)(void *), void *argument,
+                    const struct saved_query *q) {
+  size_t bytes = stack_of_call(call, argument);
+  if (bytes > d->bytes) *d = (struct deepest){bytes, q->name, q->steps};
 }
 
-int main(void) {
+/* All calls about a query, the pair question on a document. */
+static void measure_query(struct deepest d[CALLS][IMPLEMENTATIONS], const struct saved_query *q,
+                          const struct document *doc) {
+  static struct writing w[IMPLEMENTATIONS];
+  static struct asking a[IMPLEMENTATIONS];
+  struct contest c[IMPLEMENTATIONS];
+  for (enum writer which = PLAIN_IMAGE; which < WRITERS; which++) {
+    prepare_writers(w, which, q, c);
+    for (unsigned i = 0; i < IMPLEMENTATIONS; i++)
+      measure(&d[which][i], c[i].call, c[i].argument, q);
+  }
+  for (unsigned i = 0; i < IMPLEMENTATIONS; i++) {
+    a[i] = asking_of(i, q, doc);
+    measure(&d[WRITERS][i], call_pair, &a[i], q);
+  }
+  insist_on_answers(a);
+}
+
+/* Over all queries above and the words made to be deep, the pair question on
+ * the longest chain. */
+static void print_stack(void) {
+  static struct saved_query q;
+  static struct document doc;
+  struct deepest d[CALLS][IMPLEMENTATIONS] = {0};
+  struct utsname machine;
+  make_document(CHAIN, PATHPLUS_MAX_ROWS, &doc);
+  for (unsigned i = 0; i < QUERIES + DEEP_WORDS; i++) {
+    if (i < QUERIES) make_query(i, &q);
+    else make_deep(i - QUERIES, &q);
+    measure_query(d, &q, &doc);
+  }
+  uname(&machine);
+  printf("\nDeepest stack on %s, bytes, and the query that takes it\n\n%-14s", machine.machine,
+         "call");
+  for (unsigned i = 0; i < IMPLEMENTATIONS; i++)
+    printf(" %8s %-24s %5s", contestant_names[i], "query", "steps");
+  for (unsigned call = 0; call < CALLS; call++) {
+    printf("\n%-14s", call < WRITERS ? writer_names[call] : "selects");
+    for (unsigned i = 0; i < IMPLEMENTATIONS; i++)
+      printf(" %8zu %-24s %5u", d[call][i].bytes, d[call][i].query, d[call][i].steps);
+  }
+  puts("");
+}
+
+/* With the argument `stack`, the stack alone. */
+int main(int argc, char **argv) {
+  if (argc > 1 && !strcmp(argv[1], "stack")) {
+    print_stack();
+    return 0;
+  }
   struct tallies t = {
       .small_writer = {"writers, small queries: library/plain C", 1.5, 0, 0, 0},
       .large_writer = {"writers, 255 steps: library/plain C", 2, 0, 0, 0},

@@ -22,7 +22,8 @@ void call_writer(void *writing) {
   w->result = w->call(w->q->word, w->q->len, w->room, sizeof w->room);
 }
 
-struct writing writing_of(unsigned implementation, enum writer which, const struct saved_query *q) {
+static struct writing writing_of(unsigned implementation, enum writer which,
+                                 const struct saved_query *q) {
   const struct calls *c = implementations[implementation];
   write_call *const calls[WRITERS] = {c->plain_image, c->minimal_image, c->normal_form};
   return (struct writing){.call = calls[which], .q = q};
@@ -48,6 +49,17 @@ void call_pair(void *asking) {
   else a->result = xpath_selects(a->xml, a->q->text, a->m, a->n);
 }
 
+struct asking asking_of(unsigned implementation, const struct saved_query *q,
+                        const struct document *doc) {
+  return (struct asking){.call = implementations[implementation]->selects, .q = q, .doc = doc};
+}
+
+void insist_on_answers(const struct asking a[IMPLEMENTATIONS]) {
+  insist(a[LIBRARY].result <= 1 && a[LIBRARY].result == a[PLAIN].result &&
+             !memcmp(a[LIBRARY].workspace, a[PLAIN].workspace, PATHPLUS_WORKSPACE),
+         a->q, "selects");
+}
+
 /* From the last node with the query's first label; if it has none, from the
  * root, or from the last node where the query goes up. To the last node that
  * is selected, or if none is, to itself. */
@@ -64,7 +76,7 @@ static void choose_pair(struct asking *a) {
 void prepare_pair(struct asking a[CONTESTANTS], const struct saved_query *q,
                   const struct document *doc, struct xml_document *xml,
                   struct contest contests[CONTESTANTS]) {
-  a[PLAIN] = (struct asking){.call = plain_calls.selects, .q = q, .doc = doc};
+  a[PLAIN] = asking_of(PLAIN, q, doc);
   choose_pair(&a[PLAIN]);
   a[LIBRARY] = a[XML] = a[PLAIN];
   a[LIBRARY].call = library_calls.selects;
@@ -74,9 +86,7 @@ void prepare_pair(struct asking a[CONTESTANTS], const struct saved_query *q,
     call_pair(&a[i]);
     contests[i] = (struct contest){.call = call_pair, .argument = &a[i]};
   }
-  insist(a[LIBRARY].result == a[PLAIN].result &&
-             !memcmp(a[LIBRARY].workspace, a[PLAIN].workspace, PATHPLUS_WORKSPACE),
-         q, "selects");
+  insist_on_answers(a);
   insist(a[XML].result == XPATH_GAVE_UP || a[XML].result == a[PLAIN].result, q,
          "selects and XPath");
 }

@@ -29,9 +29,6 @@ struct writing {
 
 void call_writer(void *writing);
 
-/* One implementation's call, not yet run. */
-struct writing writing_of(unsigned implementation, enum writer which, const struct saved_query *q);
-
 /* Both implementations' calls, run once and compared. */
 void prepare_writers(struct writing w[IMPLEMENTATIONS], enum writer which,
                      const struct saved_query *q, struct contest contests[IMPLEMENTATIONS]);
@@ -49,6 +46,13 @@ struct asking {
 };
 
 void call_pair(void *asking);
+
+/* One implementation's question about the pair (0,0), not yet run. */
+struct asking asking_of(unsigned implementation, const struct saved_query *q,
+                        const struct document *doc);
+
+/* Both implementations answered, and left the same match table. */
+void insist_on_answers(const struct asking a[IMPLEMENTATIONS]);
 
 /* All three, run once and compared on a pair that is selected if any is from
  * the node that was chosen. libxml2 may have given up. */

@@ -6,8 +6,6 @@
 
 #include "documents.h"
 
-enum { SIGN_CHILD = 2, SIGN_PARENT, SIGN_THEN, SIGN_HAS, SIGN_LABEL = 9 };
-
 /* ---- writing both forms ---- */
 
 static void text(struct saved_query *q, const char *format, ...) {

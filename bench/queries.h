@@ -10,6 +10,9 @@
 
 enum { ANY = 0 /* no label: a wildcard */, MAX_NESTING = 260, MAX_TEXT = 16384 };
 
+/* The signs that queries are written with; HAS and UNDER are the projections. */
+enum { SIGN_CHILD = 2, SIGN_PARENT, SIGN_THEN, SIGN_HAS, SIGN_UNDER, SIGN_LABEL = 9 };
+
 struct saved_query {
   const char *name;
   uint32_t start; /* label of the node asked from, or ANY */

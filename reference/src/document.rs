@@ -36,7 +36,7 @@ impl Document {
         usize::try_from(number)
             .ok()
             .filter(|&node| node < self.nodes())
-            .ok_or(Reason::NotInTable.at(0))
+            .ok_or(Reason::NoSuchNode.at(0))
     }
 
     pub fn nodes(&self) -> usize {

@@ -25,11 +25,10 @@ mod selfcheck;
 pub use image::LONGEST_IMAGE;
 pub use matching::MATCH_TABLE_BYTES;
 pub use normal::LONGEST_NORMAL_FORM;
-pub use refusal::Refusal;
+pub use refusal::{Reason, Refusal};
 pub use word::LONGEST_WORD;
 
 use document::Document;
-use refusal::Reason;
 use tree::Tree;
 use word::Sign;
 

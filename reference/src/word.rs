@@ -86,7 +86,7 @@ pub fn read(word: &[u8]) -> Result<Vec<Sign>, Refusal> {
         let (sign, length) = first_sign(&word[place..]).ok_or(Reason::BadNumber.at(place))?;
         let taken = sign.operands();
         if pending < taken {
-            return Err(Reason::OperandsLacking.at(place));
+            return Err(Reason::MissingOperand.at(place));
         }
         if taken == 0 && pending == MOST_PENDING {
             return Err(Reason::TooManyPending.at(place));

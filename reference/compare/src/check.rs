@@ -7,6 +7,7 @@ use crate::difference::{Difference, Outcome};
 use crate::generator::Generator;
 use crate::library::{self, Library, Writer};
 use crate::question::{question, Question};
+use crate::returned::{is_refused, value};
 use crate::stand_in;
 use crate::tables::MOST_ROWS;
 use reference::LONGEST_NORMAL_FORM;
@@ -79,10 +80,10 @@ impl Check<'_> {
 
     /// Around the answer's length; for a refused word, some.
     fn room_lengths(&mut self, returned: u64) -> Vec<usize> {
-        if returned >> 32 != 0 {
+        if is_refused(returned) {
             return vec![self.generator.pick(&[0, 1, 40, LONGEST_NORMAL_FORM])];
         }
-        let answer = returned as usize;
+        let answer = value(returned);
         let larger = answer + 2 + self.generator.size(LONGEST_NORMAL_FORM);
         let shorter = self.generator.below(answer);
         let all = vec![answer, answer - 1, answer + 1, larger, shorter, 0];

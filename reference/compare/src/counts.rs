@@ -1,10 +1,10 @@
 //! Counts of what was compared: a comparison that never sees a refusal checks
 //! nothing, so each of them must have occurred.
 
+use crate::returned::{is_refused, refusal};
+use reference::Reason;
 use std::collections::BTreeMap;
 use std::fmt::{self, Display, Formatter};
-
-const REFUSALS: usize = 10;
 
 /// How often each kind of input and each outcome occurred.
 #[derive(Clone, Debug, Default, PartialEq, Eq)]
@@ -15,7 +15,8 @@ pub struct Counts {
     written: u64,
     yes: u64,
     no: u64,
-    refusals: [u64; REFUSALS],
+    /// By their numbers; those that occurred.
+    refusals: BTreeMap<u32, u64>,
 }
 
 impl Counts {
@@ -29,7 +30,7 @@ impl Counts {
 
     pub(crate) fn written(&mut self, returned: u64) {
         self.returned(returned);
-        self.written += u64::from(returned >> 32 == 0);
+        self.written += u64::from(!is_refused(returned));
     }
 
     pub(crate) fn selected(&mut self, returned: u64) {
@@ -40,10 +41,27 @@ impl Counts {
 
     fn returned(&mut self, returned: u64) {
         self.calls += 1;
-        let number = (returned >> 32) as usize;
-        if (1..=REFUSALS).contains(&number) {
-            self.refusals[number - 1] += 1;
+        if is_refused(returned) {
+            *self.refusals.entry(refusal(returned)).or_default() += 1;
         }
+    }
+
+    /// Every refusal of the table, how often it occurred.
+    fn refusals(&self) -> impl Iterator<Item = (u32, u64)> + '_ {
+        Reason::ALL.iter().map(|reason| {
+            let number = reason.number();
+            (number, self.refusals.get(&number).copied().unwrap_or(0))
+        })
+    }
+
+    /// How many words there were, or cases of a corpus.
+    pub fn words(&self) -> u64 {
+        self.words.values().sum()
+    }
+
+    /// How many calls there were.
+    pub fn calls(&self) -> u64 {
+        self.calls
     }
 
     /// What has to occur in every comparison and didn't.
@@ -54,8 +72,9 @@ impl Counts {
             (self.no, "the answer no"),
         ];
         let answers = answers.map(|(count, what)| (count, what.to_string()));
-        let numbers = (1..).map(|number| format!("refusal {number}"));
-        let refusals = self.refusals.into_iter().zip(numbers);
+        let refusals = self
+            .refusals()
+            .map(|(number, count)| (count, format!("refusal {number}")));
         let all = answers.into_iter().chain(refusals);
         all.filter(|&(count, _)| count == 0)
             .map(|(_, what)| what)
@@ -65,7 +84,7 @@ impl Counts {
 
 impl Display for Counts {
     fn fmt(&self, f: &mut Formatter) -> fmt::Result {
-        let words: u64 = self.words.values().sum();
+        let words = self.words();
         let Counts {
             calls,
             written,
@@ -77,8 +96,8 @@ impl Display for Counts {
             f,
             "{words} words, {calls} calls: written {written}, yes {yes}, no {no}"
         )?;
-        for (place, count) in self.refusals.iter().enumerate() {
-            write!(f, ", refusal {} {count}", place + 1)?;
+        for (number, count) in self.refusals() {
+            write!(f, ", refusal {number} {count}")?;
         }
         for (title, kinds) in [("words", &self.words), ("tables", &self.tables)] {
             write!(f, "; {title}:")?;

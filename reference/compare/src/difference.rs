@@ -2,6 +2,7 @@
 
 use crate::buffer::Buffer;
 use crate::question::Question;
+use crate::returned::{is_refused, refusal, value};
 use std::fmt::{self, Display, Formatter};
 
 const MOST_BYTES_SHOWN: usize = 32;
@@ -29,20 +30,15 @@ pub(crate) struct Outcome {
 }
 
 impl Outcome {
-    fn refusal_number(&self) -> u64 {
-        self.returned >> 32
-    }
-
     /// The refusal, or the answer's bytes in hex if it was a writer's.
     fn described(&self, is_writer: bool) -> String {
-        let (number, low) = (self.refusal_number(), self.returned & 0xffff_ffff);
-        if number != 0 {
-            return format!("refused {number} {low}");
+        let value = value(self.returned);
+        if is_refused(self.returned) {
+            return format!("refused {} {value}", refusal(self.returned));
         }
-        let length = low as usize;
-        match self.buffer.as_lent().get(..length) {
-            Some(answer) if is_writer => format!("{length} bytes: {}", hex(answer)),
-            _ => format!("answer {low}"),
+        match self.buffer.as_lent().get(..value) {
+            Some(answer) if is_writer => format!("{value} bytes: {}", hex(answer)),
+            _ => format!("answer {value}"),
         }
     }
 }

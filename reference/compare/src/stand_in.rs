@@ -2,13 +2,7 @@
 //! archive while the comparison itself is tested.
 
 use crate::library::Library;
-use reference::Refusal;
-
-/// The number that a C call returns: the refusal number in the upper 32 bits
-/// (0 if answered), in the lower ones the place, or the length, or 1 or 0.
-pub fn packed(outcome: Result<u64, Refusal>) -> u64 {
-    outcome.unwrap_or_else(|refusal| u64::from(refusal.number) << 32 | refusal.place)
-}
+use crate::returned::packed;
 
 /// The second implementation's plain image, as a C call returns it.
 pub fn plain_image(word: &[u8], room: &mut [u8]) -> u64 {

@@ -1,9 +1,9 @@
-//! The programs, run as the gate runs them.
+//! The programs, run as the gate runs them but for the library.
 
 use std::process::{Command, Output};
 
 fn compare(arguments: &[&str]) -> Output {
-    let mut program = Command::new(env!("CARGO_BIN_EXE_compare"));
+    let mut program = Command::new(env!("CARGO_BIN_EXE_stand-in"));
     program.args(arguments).output().expect("compare runs")
 }
 
@@ -48,6 +48,8 @@ fn a_corpus_is_written_alike_twice_and_checked() {
     let lines = names.map(|name| printed(&corpus(&[name])));
     assert_eq!(lines[0], lines[1]);
     assert_eq!(printed(&corpus(&["--check", names[0]])), lines[0]);
+    let line = printed(&corpus(&["--line", names[0]]));
+    assert!(line.starts_with("4000 cases, ") && line.ends_with(" calls\n"));
     let bytes = std::fs::read(&files[0]).expect("was written");
     assert!(bytes.len() < 1_000_000, "{} bytes", bytes.len());
     // The first result, the number of cases, and a byte cut off at the end.

@@ -3,6 +3,7 @@
 use super::reader::Reader;
 use super::{checksum, FILL, MOST_ROWS, ROOM_BUFFER, WORKSPACE_BUFFER};
 use crate::library::{select, write, Library};
+use crate::returned::{is_refused, value};
 
 /// A word with the outcomes of all calls about it.
 #[derive(Debug, PartialEq, Eq)]
@@ -46,12 +47,7 @@ impl Case {
             let room = self.written[which].room;
             let mut buffer = [FILL; ROOM_BUFFER];
             let result = write(writers[which], &self.word, &mut buffer[..room]);
-            let length = if result >> 32 == 0 {
-                result as usize
-            } else {
-                0
-            };
-            let (answer, rest) = buffer.split_at(length.min(ROOM_BUFFER));
+            let (answer, rest) = buffer.split_at(answer_length(result).min(ROOM_BUFFER));
             Written {
                 room,
                 result,
@@ -109,15 +105,10 @@ impl Written {
     fn decoded(reader: &mut Reader) -> Result<Written, String> {
         let room = reader.length(ROOM_BUFFER)?;
         let result = reader.long_number()?;
-        let length = if result >> 32 == 0 {
-            result as usize
-        } else {
-            0
-        };
         Ok(Written {
             room,
             result,
-            answer: reader.bytes(length)?.to_vec(),
+            answer: reader.bytes(answer_length(result))?.to_vec(),
             rest_kept: true,
         })
     }
@@ -158,6 +149,14 @@ impl Asked {
             result: reader.long_number()?,
             checksum: reader.number()?,
         })
+    }
+}
+
+/// The bytes that a writer wrote.
+fn answer_length(result: u64) -> usize {
+    match is_refused(result) {
+        true => 0,
+        false => value(result),
     }
 }
 

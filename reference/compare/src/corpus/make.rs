@@ -1,10 +1,13 @@
-//! Makes the corpus of a seed: words of all kinds in turn, those with small
-//! cases, and a part of those with large ones.
+//! Makes the corpus of a seed: what the specification tells at the limits, then
+//! words of all kinds in turn, those with small cases, and a part of those with
+//! large ones.
 
 use super::case::{number, Asked, Case, Written};
+use super::told::told;
 use super::{BEGIN, LONGEST_CASE, MOST_ROWS, WORKSPACE_BUFFER};
 use crate::generator::Generator;
 use crate::question::question;
+use crate::returned::{is_refused, value};
 use crate::stand_in;
 use crate::words::{made, Made, EXACT_WORDS};
 use reference::LONGEST_NORMAL_FORM;
@@ -20,10 +23,8 @@ const LARGE_TABLE: usize = 200;
 
 /// The bytes of the corpus of a seed.
 pub fn make(seed: u64) -> Vec<u8> {
-    let cases: Vec<Vec<u8>> = (0..)
-        .filter_map(|index| encoded(seed, index))
-        .take(CASES)
-        .collect();
+    let made = (0..).filter_map(|index| encoded(seed, index)).take(CASES);
+    let cases: Vec<Vec<u8>> = told().iter().map(Case::encoded).chain(made).collect();
     let longest = cases.iter().map(Vec::len).max().unwrap_or(0);
     let mut bytes = BEGIN.to_vec();
     number(cases.len(), &mut bytes);
@@ -80,9 +81,9 @@ fn case(generator: &mut Generator, word: Vec<u8>, most_rows: usize) -> Case {
 
 /// Mostly enough for the answer, so that it stands in the corpus.
 fn room(generator: &mut Generator, returned: u64) -> usize {
-    let answer = returned as usize;
+    let answer = value(returned);
     match generator.below(16) {
-        _ if returned >> 32 != 0 => generator.below(20),
+        _ if is_refused(returned) => generator.below(20),
         0 => answer - 1,
         1 => generator.below(answer),
         2..8 => answer + generator.below(16),

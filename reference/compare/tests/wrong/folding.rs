@@ -4,7 +4,9 @@
 use compare::c_writer;
 use compare::image::{read, Record};
 use compare::library::{Library, Writer};
+use compare::returned::{is_refused, refused};
 use compare::stand_in::{plain_image, LIBRARY};
+use reference::Reason;
 
 #[derive(Clone)]
 struct Node {
@@ -69,7 +71,7 @@ impl Manner {
     fn minimal_image(mut self, word: &[u8], room: &mut [u8]) -> u64 {
         let mut plain = [0; 2_048];
         let returned = plain_image(word, &mut plain);
-        if returned >> 32 != 0 {
+        if is_refused(returned) {
             return returned;
         }
         let records = read(&plain[..returned as usize]);
@@ -83,7 +85,7 @@ impl Manner {
         };
         match room.get_mut(..image.len()) {
             Some(room) => room.copy_from_slice(&image),
-            None => return 7 << 32 | image.len() as u64,
+            None => return refused(Reason::RoomTooShort, image.len()),
         }
         image.len() as u64
     }

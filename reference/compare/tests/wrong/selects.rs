@@ -2,7 +2,9 @@
 
 use compare::c_selects;
 use compare::library::{Library, Selects};
+use compare::returned::{is_refused_for, refused};
 use compare::stand_in::{minimal_image, selects, LIBRARY};
+use reference::Reason;
 
 const MATCH_TABLE: usize = 32_768;
 const ROW: usize = 128;
@@ -116,9 +118,9 @@ fn cuts_m(word: &[u8], table: Table, (m, n): Pair, workspace: &mut [u8]) -> u64 
 
 fn ten_before_nine(word: &[u8], table: Table, pair: Pair, workspace: &mut [u8]) -> u64 {
     let returned = selects(word, table, pair, workspace);
-    match returned >> 32 {
-        9 if workspace.len() < MATCH_TABLE => 10 << 32 | MATCH_TABLE as u64,
-        _ => returned,
+    match is_refused_for(returned, Reason::NoSuchNode) && workspace.len() < MATCH_TABLE {
+        true => refused(Reason::WorkspaceTooShort, MATCH_TABLE),
+        false => returned,
     }
 }
 
@@ -135,7 +137,7 @@ fn empty_first(word: &[u8], table: Table, pair: Pair, workspace: &mut [u8]) -> u
 
 fn clears_and_refuses(word: &[u8], table: Table, pair: Pair, workspace: &mut [u8]) -> u64 {
     let returned = selects(word, table, pair, workspace);
-    if returned >> 32 == 9 {
+    if is_refused_for(returned, Reason::NoSuchNode) {
         workspace.fill(0);
     }
     returned

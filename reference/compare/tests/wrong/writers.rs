@@ -3,14 +3,11 @@
 use compare::c_writer;
 use compare::image::{read, write};
 use compare::library::{Library, Writer};
+use compare::returned::{is_refused, is_refused_for, refused, value};
 use compare::stand_in::{minimal_image, normal_form, plain_image, LIBRARY};
+use reference::Reason;
 
-const REFUSED: u64 = 1 << 32;
 const LONGEST_ANSWER: usize = 2_048;
-
-fn is_refused(returned: u64) -> bool {
-    returned >= REFUSED
-}
 
 /// The second implementation's answer, altered on the way into the room.
 fn altered(
@@ -28,7 +25,7 @@ fn altered(
     let answer = alter(answer);
     match room.get_mut(..answer.len()) {
         Some(room) => room.copy_from_slice(&answer),
-        None => return 7 << 32 | answer.len() as u64,
+        None => return refused(Reason::RoomTooShort, answer.len()),
     }
     answer.len() as u64
 }
@@ -86,7 +83,10 @@ pub fn all() -> Vec<Library> {
 /// The idle versions that the specification names.
 fn idle() -> Vec<Library> {
     vec![
-        with_plain_image("refuses all words", c_writer!(|_, _| 6 << 32)),
+        with_plain_image(
+            "refuses all words",
+            c_writer!(|_, _| refused(Reason::NotOneOperand, 0)),
+        ),
         with_minimal_image(
             "always empty",
             c_writer!(|word, room| altered(minimal_image, word, room, |_| vec![0])),
@@ -96,7 +96,7 @@ fn idle() -> Vec<Library> {
             c_writer!(
                 |word, room| match normal_form(word, &mut [0; LONGEST_ANSWER]) {
                     returned if is_refused(returned) => returned,
-                    _ if room.len() < word.len() => 7 << 32 | word.len() as u64,
+                    _ if room.len() < word.len() => refused(Reason::RoomTooShort, word.len()),
                     _ => {
                         room[..word.len()].copy_from_slice(word);
                         word.len() as u64
@@ -176,7 +176,7 @@ unsafe extern "C" fn behind_the_room(
 ) -> u64 {
     // The comparison guards its rooms, the corpus lends from a larger buffer.
     let returned = (LIBRARY.normal_form)(word, word_len, room, room_len);
-    if returned >> 32 == 7 && (1..1_000).contains(&room_len) {
+    if is_refused_for(returned, Reason::RoomTooShort) && (1..1_000).contains(&room_len) {
         *room.add(room_len) ^= 1;
     }
     returned
@@ -201,28 +201,30 @@ fn refusals() -> Vec<Library> {
         with_plain_image(
             "wrong place of a bad number",
             c_writer!(|word, room| match plain_image(word, room) {
-                returned if returned >> 32 == 2 => returned + 1,
+                returned if is_refused_for(returned, Reason::BadNumber) => returned + 1,
                 returned => returned,
             }),
         ),
         with_minimal_image(
             "needs a byte more than the answer",
             c_writer!(|word, room| match minimal_image(word, room) {
-                returned if returned >> 32 == 7 => returned + 1,
+                returned if is_refused_for(returned, Reason::RoomTooShort) => returned + 1,
                 returned => returned,
             }),
         ),
         with_normal_form(
             "5 before 4",
             c_writer!(|word, room| match normal_form(word, room) {
-                returned if returned >> 32 == 4 && word[256] == 2 => returned + REFUSED,
+                returned if is_refused_for(returned, Reason::TooManyPending) && word[256] == 2 => {
+                    refused(Reason::TooManySteps, value(returned))
+                }
                 returned => returned,
             }),
         ),
         with_plain_image(
             "refuses words of 4,096 bytes",
             c_writer!(|word, room| match word.len() {
-                4_096.. => 1 << 32 | 4_096,
+                4_096.. => refused(Reason::WordTooLong, 4_096),
                 _ => plain_image(word, room),
             }),
         ),
