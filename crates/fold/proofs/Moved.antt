@@ -18,7 +18,7 @@ use Rattle.rows.specs.Rows.{tagAt, shape, mapT, treeRows, Holds, width, Counted
 use Rattle.rows.proofs.Rows.{size-mapT, width-mapT, size-holds, holds-is, row-opens, rows-top, row-up}
 use Rattle.onto.specs.Left.{goneRow, kept, left, keptTree}
 use Rattle.onto.proofs.Left.{kept-bare, kept-here, kept-away}
-use Rattle.fold.specs.Kept.{Remains, parentMoved, Movable, RowMoved, RowsKept}
+use Rattle.fold.specs.Kept.{SomeGone, Remains, parentMoved, Movable, RowMoved, RowsKept}
 
 -- ------------------------------------------------------------------ the nodes of a forest in image order
 -- a number for each node, by its row and what lies below it
@@ -75,7 +75,8 @@ module _ {span up : List ℕ} {n : ℕ} where
   walk-skip (skip l g w) m e = w
   walk-skip (take l d w) m e = absurd (d e)
 
-  walk-take : {i : ℕ} {xs : List ℕ} → Walk span up n i xs → i < n → ¬ (getD up i 0 ≡ goneRow) → (ys : List ℕ) × (xs ≡ i ∷ ys) × Walk span up n (suc i) ys
+  walk-take : {i : ℕ} {xs : List ℕ} → Walk span up n i xs → i < n → ¬ (getD up i 0 ≡ goneRow)
+      → (ys : List ℕ) × (xs ≡ i ∷ ys) × Walk span up n (suc i) ys
   walk-take (stop l) m e = absurd (omega arith)
   walk-take (skip l g w) m e = absurd (e g)
   walk-take (take {xs = ys} l d w) m e = (ys, refl, w)
@@ -85,7 +86,7 @@ module _ {span up : List ℕ} {n : ℕ} where
   walk-stop (skip l g w) m = absurd (omega arith)
   walk-stop (take l d w) m = absurd (omega arith)
 
-module _ (span up was : List ℕ) (n : ℕ) (few : n ≤ mostNodes) (only : (j : ℕ) → (getD up j 0 ≡ getD was j 0) ⊎ ((0 < j) × (j < n) × (getD up j 0 ≡ goneRow))) where
+module _ (span up was : List ℕ) (n : ℕ) (few : n ≤ mostNodes) (only : SomeGone n was up) where
   -- it meets the nodes that are left, in their order
   walk-nodes : (p u e : ℕ) (F : Forest ℕ) (xs : List ℕ) → Holds span u e F → Hung was p F → ¬ (p ≡ goneRow) → e ≤ n → Walk span up n e xs
       → Walk span up n u (nodes (kept up p F) ++ xs)
@@ -95,7 +96,8 @@ module _ (span up was : List ℕ) (n : ℕ) (few : n ≤ mostNodes) (only : (j :
       let w′ = walk-nodes p (suc i + size k) e r xs (h .3) (g .2) d l w in
       rw (h .0) (go (only i) (omega arith) w′ (λ ys y. walk-nodes i (suc i) (suc i + size k) k ys (h .2) (g .1) (λ q. omega arith) (omega arith) y))
     where
-      go : (getD up i 0 ≡ getD was i 0) ⊎ ((0 < i) × (i < n) × (getD up i 0 ≡ goneRow)) → i < n → Walk span up n (suc i + size k) (nodes (kept up p r) ++ xs)
+      go : (getD up i 0 ≡ getD was i 0) ⊎ ((0 < i) × (i < n) × (getD up i 0 ≡ goneRow)) → i < n
+          → Walk span up n (suc i + size k) (nodes (kept up p r) ++ xs)
           → ((ys : List ℕ) → Walk span up n (suc i + size k) ys → Walk span up n (suc i) (nodes (kept up i k) ++ ys))
           → Walk span up n i (nodes (kept up p (tree i k r)) ++ xs)
       go (inl e′) m x f =
@@ -131,7 +133,8 @@ module _ (up moved : List ℕ) (i : ℕ) where
   parent-row n p e = rw (ne-eqb (getD up i 0) noRow n, e)
 
 -- the new number of a parent that has its place does not change when a later row moves
-parent-same : (up moved : List ℕ) (i j x : ℕ) → (getD up x 0 ≡ noRow) ⊎ (getD up x 0 < x) → x ≤ i → parentMoved up (set moved i j) x ≡ parentMoved up moved x
+parent-same : (up moved : List ℕ) (i j x : ℕ) → (getD up x 0 ≡ noRow) ⊎ (getD up x 0 < x) → x ≤ i
+    → parentMoved up (set moved i j) x ≡ parentMoved up moved x
 unfolding parentMoved
 parent-same up moved i j x (inl e) l = rw (eq-eqb (getD up x 0) noRow e)
 parent-same up moved i j x (inr m) l = rw (getD-set-other moved i (getD up x 0) j 0 (λ e. omega arith))
@@ -266,7 +269,8 @@ module _ {code₀ mark₀ span up : List ℕ} {n : ℕ} (R : Remains code₀ mar
           marks = rw (P .marks) (length-set mark j (getD mark i 0) ∙ M .marks);
         }
       where
-        fact : (t : ℕ) → t < j + 1 → getD (nodes F) j 0 ≡ i → Dec (t < j) → Fact code₀ mark₀ up code′ mark′ parent′ moved′ (i + 1) t (getD (nodes F) t 0)
+        fact : (t : ℕ) → t < j + 1 → getD (nodes F) j 0 ≡ i → Dec (t < j)
+            → Fact code₀ mark₀ up code′ mark′ parent′ moved′ (i + 1) t (getD (nodes F) t 0)
         fact t m x (yes b) = fact-kept P b (M .facts t b)
         fact t m x (no b) =
             let a = M .ahead i (omega arith) in
@@ -311,9 +315,14 @@ module _ {code₀ mark₀ span up : List ℕ} {n : ℕ} (R : Remains code₀ mar
   fact : {t x : ℕ} {k : Forest ℕ} → Node K t x k → Fact code₀ mark₀ up code mark parent moved i t x
   fact {t} N = rw (N .value (λ i k. i)) at (M .facts t (omega (arith, N .inside, size-is)))
 
-  -- they bear what they bore, are laid out in image order, and hang below their parents
+  -- from place t up to place e, below row q, they bear what they bore, are laid out in image order, and hang below their parents
+  abbrev Moved : ℕ → ℕ → ℕ → Forest ℕ → Type 0
+  Moved q t e G =
+      (mapT (tagAt code mark) (mapT to G) ≡ mapT (tagAt code₀ mark₀) G) × Holds spans t e (mapT to G) × Counted counts (mapT to G)
+      × Hung parent q (mapT to G)
+
   rows-moved : (p q t e : ℕ) (G : Forest ℕ) → Spread (Node K) t G → Hung up p G → q ≡ cond (eqb p noRow) noRow (to p) → e ≡ t + size G
-      → (mapT (tagAt code mark) (mapT to G) ≡ mapT (tagAt code₀ mark₀) G) × Holds spans t e (mapT to G) × Counted counts (mapT to G) × Hung parent q (mapT to G)
+      → Moved q t e G
   unfolding mapT parentMoved
   rows-moved p q t e bare s h b z = (refl, omega arith, tt, tt)
   rows-moved p q t e (tree x k r) (N, s, s′) (g, h, h′) b z =
@@ -330,9 +339,10 @@ module _ {code₀ mark₀ span up : List ℕ} {n : ℕ} (R : Remains code₀ mar
         (rw (y, f .parents, g, b), u .3, w .3),
       )
 
-  all-moved : (mapT (tagAt code mark) (mapT to K) ≡ mapT (tagAt code₀ mark₀) K) × Holds spans 0 j (mapT to K) × Counted counts (mapT to K) × Hung parent noRow (mapT to K)
-  all-moved = rows-moved noRow noRow 0 j K (spread-nodes K K 0 (λ f. []) (λ f. []) (λ f. (sym (append-nil (values f K)), refl))) (hung-kept up noRow (shape span n)) refl
-      (omega (arith, size-is))
+  all-moved : Moved noRow 0 j K
+  all-moved =
+      rows-moved noRow noRow 0 j K (spread-nodes K K 0 (λ f. []) (λ f. []) (λ f. (sym (append-nil (values f K)), refl)))
+      (hung-kept up noRow (shape span n)) refl (omega (arith, size-is))
 
   shape-is : shape spans j ≡ mapT to K
   unfolding shape

@@ -18,12 +18,6 @@ pub clear-spec : {M : Type 1} → statement M
 clear-spec =
     tie.close
     (tie.spec
-    Inv-loop
-    μ-loop
-    (λ c. (omega arith, clear-none _))
-    (λ c. omega (arith, c .before .loop .inv .1 .same))
-    (λ c. search needs)
-    (λ c. search needs)
-    (λ c. (omega arith, clear-more _ _ _ (omega arith) (c .before .loop .inv .1)))
-    (λ c. c .before .loop .inv .1 .same)
+    Inv-loop μ-loop (λ c. (omega arith, clear-none _)) (λ c. omega (arith, c .before .loop .inv .1 .same)) (λ c. search needs) (λ c. search needs)
+    (λ c. (omega arith, clear-more _ _ _ (omega arith) (c .before .loop .inv .1))) (λ c. c .before .loop .inv .1 .same)
     (λ c. let z : c .before .loop .i ≡ 32768 = omega arith in rw z at (c .before .loop .inv .1)))

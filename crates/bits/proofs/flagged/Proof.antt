@@ -19,15 +19,9 @@ pub flagged-spec : {M : Type 1} → statement M
 flagged-spec =
     tie.close
     (tie.spec
-    Inv-loop
-    μ-loop
+    Inv-loop μ-loop
     (λ c. let s = c .before .before in flagged-none _ (λ j. eqb (getD (s .args .flags .now) (s .args .from + j) 0) 1) (c .if1 .taken))
-    (λ c. (omega arith, sifted-none _ _))
-    (λ c. search needs)
-    (λ c. search needs)
-    (λ c κs. search needs)
-    (λ c. search needs)
-    (λ c. search needs)
+    (λ c. (omega arith, sifted-none _ _)) (λ c. search needs) (λ c. search needs) (λ c κs. search needs) (λ c. search needs) (λ c. search needs)
     (λ c.
     let t = c .before .before in let s = t .before .before .before .before in (
       omega arith,

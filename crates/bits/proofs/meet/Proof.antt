@@ -18,18 +18,9 @@ pub meet-spec : {M : Type 1} → statement M
 meet-spec =
     tie.close
     (tie.spec
-    Inv-loop
-    μ-loop
-    (λ c. search needs)
-    (λ c. (omega arith, met-none _ _ _))
-    (λ c. search needs)
-    (λ c. omega (arith, c .before .before .loop .inv .1 .only .same))
-    (λ c. search needs)
-    (λ c κs. search needs)
-    (λ c. search needs)
-    (λ c. omega (arith, c .before .before .before .loop .inv .1 .only .same))
-    (λ c. search needs)
-    (λ c. search needs)
+    Inv-loop μ-loop (λ c. search needs) (λ c. (omega arith, met-none _ _ _)) (λ c. search needs)
+    (λ c. omega (arith, c .before .before .loop .inv .1 .only .same)) (λ c. search needs) (λ c κs. search needs) (λ c. search needs)
+    (λ c. omega (arith, c .before .before .before .loop .inv .1 .only .same)) (λ c. search needs) (λ c. search needs)
     (λ c.
     let h = c .before .before .before in
     (omega arith, met-more _ _ _ _ (h .loop .i) _ (omega arith) (h .before .before .before .pre .1) (c .flagged .ensures) (h .loop .inv .1)))

@@ -6,4 +6,7 @@ use Rattle.bits.proofs.set_bit.Tie as tie
 
 pub set-bit-spec : {M : Type 1} → statement M
 set-bit-spec =
-    tie.close (tie.spec (λ c. search needs) (λ c. search needs) (λ c. search needs) (λ c. search needs) (λ c. search needs) (λ c. search needs) (λ c. search needs) (λ c. bit-set _ _ _ (c .before .pre .1) (c .before .pre .2)))
+    tie.close
+    (tie.spec
+    (λ c. search needs) (λ c. search needs) (λ c. search needs) (λ c. search needs) (λ c. search needs) (λ c. search needs) (λ c. search needs)
+    (λ c. bit-set _ _ _ (c .before .pre .1) (c .before .pre .2)))

@@ -4,4 +4,7 @@ use Rattle.bits.proofs.still_clear.Statement.{statement}
 use Rattle.bits.proofs.still_clear.Tie as tie
 
 pub still-clear-spec : {M : Type 1} → statement M
-still-clear-spec = tie.close (tie.spec (λ c. clear-not (c .before .args .clear) _ (c .if1 .taken)) (λ c. clear-too (c .before .args .clear) _ (c .if1 .left)))
+still-clear-spec =
+    tie.close
+    (tie.spec
+    (λ c. clear-not (c .before .args .clear) _ (c .if1 .taken)) (λ c. clear-too (c .before .args .clear) _ (c .if1 .left)))

@@ -7,4 +7,6 @@ use Rattle.bits.proofs.test_bit.Tie as tie
 
 pub test-bit-spec : {M : Type 1} → statement M
 test-bit-spec =
-    tie.close (tie.spec (λ c. search needs) (λ c. search needs) (λ c. search needs) (λ c. search needs) (λ c. search needs) (λ c. unfold bitAt in rw (and-one _)))
+    tie.close
+    (tie.spec
+    (λ c. search needs) (λ c. search needs) (λ c. search needs) (λ c. search needs) (λ c. search needs) (λ c. unfold bitAt in rw (and-one _)))

@@ -19,11 +19,11 @@ use Rattle.branches.proofs.+branch+chain.Lts-branch as branch-lts
 use Rattle.branches.proofs.chain.Reads as chain
 use Rattle.branches.proofs.chain.Kinds as chain-kinds
 use Rattle.branches.proofs.+branch+chain.Lts-chain as chain-lts
-use Rattle.branches.proofs.join.Reads as join-reads
-use Rattle.branches.proofs.put_label.Reads as put-label-reads
-use Rattle.branches.proofs.put_sign.Reads as put-sign-reads
-use Rattle.rows.proofs.link.Reads as link-reads
-use Rattle.groups.proofs.put_byte.Reads as put-byte-reads
+use Rattle.branches.proofs.join.Reads as join
+use Rattle.branches.proofs.put_label.Reads as label
+use Rattle.branches.proofs.put_sign.Reads as sign
+use Rattle.rows.proofs.link.Reads as link
+use Rattle.groups.proofs.put_byte.Reads as byte
 use Rattle.branches.proofs.+branch+chain.{statement}
 use Rattle.branches.proofs.+branch+chain.Tie.{close}
 
@@ -45,21 +45,16 @@ chain-at t = and 4 chain-kinds.ps (is 4 chain-kinds.ps μ-chain t) chain.Pre
 abbrev chain-below : ℕ → In 4 chain-kinds.ps
 chain-below t = and 4 chain-kinds.ps (falls 4 chain-kinds.ps _<_ μ-chain t) chain.Pre
 
-abbrev chain-claims : ℕ → chain-lts.Claims
-chain-claims t = (put-sign-reads.Asked, put-sign-reads.Learnt, put-label-reads.Asked, put-label-reads.Learnt, chain-below t, chain.Post, link-reads.Asked, link-reads.Learnt, branch-below t, branch.Post, join-reads.Asked, join-reads.Learnt)
-
-abbrev branch-claims : ℕ → branch-lts.Claims
-branch-claims t = (chain-below t, chain.Post, put-byte-reads.Asked, put-byte-reads.Learnt)
-
 abbrev chain-Inv-loop : chain-lts.InvT-loop
-chain-Inv-loop code kids span u room₀ from at below end stop c₀ place₀ room c place = (u < c) × (stop ≡ u + getD span u 0) × Off code span u u c stop room₀ from place₀ (onwardAt code span u) room place
+chain-Inv-loop code kids span u room₀ from at below end stop c₀ place₀ room c place =
+    (u < c) × (stop ≡ u + getD span u 0) × Off code span u u c stop room₀ from place₀ (onwardAt code span u) room place
     × (place₀ + length (fill from place₀ (onwardAt code span u)) ≤ length room₀)
 
 abbrev chain-μ-loop : chain-lts.MeasureT-loop
 chain-μ-loop code kids span u room₀ from at below end stop c₀ place₀ room c place = stop - c
 
 pub +branch+chain-spec : {M : Type 1} → statement M
-+branch+chain-spec = close μ-branch μ-chain (λ t. branch-lts.spec (branch-claims t) (branch-at t) branch.Post
++branch+chain-spec = close μ-branch μ-chain (λ t. branch-lts.spec (chain-below t, chain.Post, byte.Asked, byte.Learnt) (branch-at t) branch.Post
     (λ c κs.
     let s = c .before .before .before .before .before in
     (omega (arith, s .pre .0), (s .pre .1 .0, omega arith, chain-fits (s .pre .1 .0) (s .args .at) _ (s .pre .1 .1))))
@@ -72,7 +67,7 @@ pub +branch+chain-spec : {M : Type 1} → statement M
     (λ c.
     let p = c .before .before in let k = p .before .before .before .before in
     branch-done (k .before .before .before .before .before .before .pre .1 .0) (k .chain .ensures) (record { place = p .put-byte .ensures .0; bytes = p .put-byte .ensures .1 })))
-    λ t. chain-lts.spec (chain-claims t) (chain-at t) chain.Post chain-Inv-loop chain-μ-loop
+    λ t. chain-lts.spec (sign.Asked, sign.Learnt, label.Asked, label.Learnt, chain-below t, chain.Post, link.Asked, link.Learnt, branch-below t, branch.Post, join.Asked, join.Learnt) (chain-at t) chain.Post chain-Inv-loop chain-μ-loop
     (λ c κs. let s = c .before .before .before .before .before in child-fits (s .pre .1 .0) (s .args .room .now) (s .pre .1 .1) (s .pre .1 .2))
     (λ c κs.
     let p = c .before .before .before in let s = p .before .before .before .before .before .before in
@@ -159,7 +154,8 @@ pub +branch+chain-spec : {M : Type 1} → statement M
     (λ c.
     let t = c .before .before .before .before .before .before .before .before .before in let h = t .before in
     let (uc, es, O, f) = h .loop .inv in
-    let b = row-below (h .before .before .before .before .before .before .before .before .before .before .before .before .before .before .before .before .pre .1 .0) (h .loop .c) uc (omega (arith, t .loop-test .taken)) in
+    let s = h .before .before .before .before .before .before .before .before .before .before .before .before .before .before .before .before in
+    let b = row-below (s .pre .1 .0) (h .loop .c) uc (omega (arith, t .loop-test .taken)) in
     omega (arith, b .0, c .link2 .ensures .0, t .loop-test .taken))
     (λ c.
     let j = c .before .before .before in let b = j .before .before .before .before in let t = b .before .before in

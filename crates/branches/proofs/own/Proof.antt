@@ -11,7 +11,8 @@ use Rattle.branches.proofs.own.Statement.{statement}
 use Rattle.branches.proofs.own.Tie as tie
 
 abbrev Inv-loop : tie.InvT-loop
-Inv-loop code kids span u x y room₀ from at place₀ stop c₀ room place c = (u < c) × (stop ≡ u + getD span u 0) × Off code span x y c stop room₀ from place₀ (branchesAt code span x y u) room place
+Inv-loop code kids span u x y room₀ from at place₀ stop c₀ room place c =
+    (u < c) × (stop ≡ u + getD span u 0) × Off code span x y c stop room₀ from place₀ (branchesAt code span x y u) room place
     × (place₀ + length (fill from place₀ (branchesAt code span x y u)) ≤ length room₀)
 
 abbrev μ-loop : tie.MeasureT-loop
@@ -21,8 +22,7 @@ pub own-spec : {M : Type 1} → statement M
 own-spec =
     tie.close
     (tie.spec
-    Inv-loop
-    μ-loop
+    Inv-loop μ-loop
     (λ c κs.
     let s = c .before .before .before .before .before in
     let (R, le, f) = s .pre in
@@ -44,7 +44,8 @@ own-spec =
     (λ c κs.
     let t = c .before in let h = t .before in
     let (uc, es, O, f) = h .loop .inv in
-    (row-in (h .before .before .before .before .before .before .before .before .before .before .pre .0) (h .loop .c) (omega (arith, t .loop-test .taken)), off-fits O (t .loop-test .taken) f))
+    let s = h .before .before .before .before .before .before .before .before .before .before in
+    (row-in (s .pre .0) (h .loop .c) (omega (arith, t .loop-test .taken)), off-fits O (t .loop-test .taken) f))
     (λ c κs.
     let t = c .before .before .before .before in
     let R = t .before .before .before .before .before .before .before .before .before .before .before .pre .0 in

@@ -30,28 +30,21 @@ pub first-foldable-spec : {M : Type 1} → statement M
 first-foldable-spec =
     tie.close
     (tie.spec
-    Inv-loop
-    μ-loop
-    Inv-pair
-    μ-pair
+    Inv-loop μ-loop Inv-pair μ-pair
     (λ c. (omega arith, c .before .before .before .before .before .pre .begun, λ x l m. absurd (omega arith)))
-    (λ c κs. search needs)
-    (λ c. (omega arith, λ y l. absurd (omega arith)))
-    (λ c κs. search needs)
+    (λ c κs. search needs) (λ c. (omega arith, λ y l. absurd (omega arith))) (λ c κs. search needs)
     (λ c κs.
     let t = c .before .before in
     let p = t .before .before .before .before .before .before .before .before .before .before .pre .stand in
     let u = c .before .before .before .before in
     (rw (u .link .ensures .0) (p _ (u .before .pair-test .taken)), rw (c .link2 .ensures .0) (p _ (t .loop-test .taken))))
-    (λ c. search needs)
-    (λ c. search needs)
+    (λ c. search needs) (λ c. search needs)
     (λ c. (
       omega arith,
       below-more _ _ (c .before .before .loop .inv .1)
           (⊎-elim (λ w n. rw (w .1 .ensures .0) at (no-told (w .2 .ensures) (w .3 .left))) (λ w n. absurd (n (w .left))) (c .if1 .came)),
     ))
-    (λ c. search needs)
-    (λ c. search needs)
+    (λ c. search needs) (λ c. search needs)
     (λ c.
     let l1 = c .before .before in
     let v = l1 .before .before .pair .inv in

@@ -21,11 +21,7 @@ pub fold-children-spec : {M : Type 1} → statement M
 fold-children-spec =
     tie.close
     (tie.spec
-    Inv-loop
-    μ-loop
-    (λ c κs. search needs)
-    (λ c. search needs)
-    (λ c. c .before .before .before .list-children .kept .1 .1 .1 .0)
+    Inv-loop μ-loop (λ c κs. search needs) (λ c. search needs) (λ c. c .before .before .before .list-children .kept .1 .1 .1 .0)
     (λ c.
     let l = c .before .before .before in
     let s = l .before .before .before .before .before .before .before .before .pre .0 in

@@ -24,20 +24,11 @@ pub list-children-spec : {M : Type 1} → statement M
 list-children-spec =
     tie.close
     (tie.spec
-    Inv-loop
-    μ-loop
-    (λ c κs. search needs)
-    (λ c. search needs)
-    (λ c. search needs)
+    Inv-loop μ-loop (λ c κs. search needs) (λ c. search needs) (λ c. search needs)
     (λ c.
     let h = c .before .before .before .before .pre .held in
     (refl, omega arith, over-start (omega (arith, c .link .ensures .0)) h, list-start _ _ _ _ h))
-    (λ c. search needs)
-    (λ c. search needs)
-    (λ c. search needs)
-    (λ c κs. search needs)
-    (λ c. search needs)
-    (λ c κs. search needs)
+    (λ c. search needs) (λ c. search needs) (λ c. search needs) (λ c κs. search needs) (λ c. search needs) (λ c κs. search needs)
     (λ c.
     let t = c .before .before .before in let h = t .before in
     let z = over-step (h .loop .inv .2) (t .loop-test .taken) (c .link2 .ensures .0) in
@@ -62,5 +53,4 @@ list-children-spec =
     ))
     (λ w. rw (w .1) (simp length-set (v .0), omega (arith, v .1, z), o, list-gone (v .2) L t d (no-told r (w .0 .left))))
     (c .before .if1 .came))
-    (λ c. search needs)
-    (λ c. list-all (c .before .loop .inv .2) (c .before .loop .inv .3) (c .loop-test .left)))
+    (λ c. search needs) (λ c. list-all (c .before .loop .inv .2) (c .before .loop .inv .3) (c .loop-test .left)))

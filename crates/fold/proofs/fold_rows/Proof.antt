@@ -18,10 +18,7 @@ pub fold-rows-spec : {M : Type 1} → statement M
 fold-rows-spec =
     tie.close
     (tie.spec
-    Inv-loop
-    μ-loop
-    (λ c. (refl, settled-none _ _ _ _ _))
-    (λ c. search needs)
+    Inv-loop μ-loop (λ c. (refl, settled-none _ _ _ _ _)) (λ c. search needs)
     (λ c κs.
     let t = c .before .before in let h = t .before in let s = h .before .before .before .before .before .before in (
       settled-stands (s .pre .0) (h .loop .inv .1) _ (omega (arith, h .loop .inv .1 .until, t .loop-test .taken)),
@@ -34,8 +31,7 @@ fold-rows-spec =
     let e : h .loop .p ≡ h .loop .p - 1 + 1 = omega (arith, t .loop-test .taken) in
     let s = h .before .before .before .before .before .before .pre .0 in
     (f .fold-children .kept .1 .1 .1 .1 .1 .0 ∙ h .loop .inv .0, settled-more s (rw e at (h .loop .inv .1)) (f .fold-children .ensures) (f .fold-children .kept .1 .1 .1 .0)))
-    (λ c. search needs)
-    (λ c. search needs)
+    (λ c. search needs) (λ c. search needs)
     (λ c.
     let h = c .before in
     let e : h .loop .p ≡ 0 = omega (arith, c .loop-test .left) in

@@ -8,7 +8,8 @@ use Rattle.fold.proofs.keep_rows.Statement.{statement}
 use Rattle.fold.proofs.keep_rows.Tie as tie
 
 abbrev Inv-loop : tie.InvT-loop
-Inv-loop code₀ mark₀ span up n parent₀ moved₀ i₀ j₀ code mark parent moved i j = Moving code₀ mark₀ span up n code mark parent moved i j × (length parent ≡ length parent₀) × (length moved ≡ length moved₀)
+Inv-loop code₀ mark₀ span up n parent₀ moved₀ i₀ j₀ code mark parent moved i j =
+    Moving code₀ mark₀ span up n code mark parent moved i j × (length parent ≡ length parent₀) × (length moved ≡ length moved₀)
 
 abbrev μ-loop : tie.MeasureT-loop
 μ-loop code₀ mark₀ span up n parent₀ moved₀ i₀ j₀ code mark parent moved i j = n - i
@@ -17,8 +18,7 @@ pub keep-rows-spec : {M : Type 1} → statement M
 keep-rows-spec =
     tie.close
     (tie.spec
-    Inv-loop
-    μ-loop
+    Inv-loop μ-loop
     (λ c. (moving-none (c .before .before .before .before .before .before .pre .0) _ _, refl, refl))
     (λ c.
     let s = c .before .before .before .before .before .before .before .before in
@@ -66,10 +66,7 @@ keep-rows-spec =
       m .move-row .kept .1 .1 .1 .1 .0 ∙ h .loop .inv .1,
       m .move-row .kept .1 .1 .1 .1 .1 .0 ∙ h .loop .inv .2,
     ))
-    (λ c. c .before .loop .inv .0 .codes)
-    (λ c. c .before .loop .inv .0 .marks)
-    (λ c. c .before .loop .inv .1)
-    (λ c. c .before .loop .inv .2)
+    (λ c. c .before .loop .inv .0 .codes) (λ c. c .before .loop .inv .0 .marks) (λ c. c .before .loop .inv .1) (λ c. c .before .loop .inv .2)
     (λ c.
     let h = c .before in let s = h .before .before .before .before .before .before .before in
     moving-all (s .pre .0) (h .loop .inv .0) (c .loop-test .left) (omega (arith, h .loop .inv .1, s .pre .1))))

@@ -10,8 +10,7 @@ pub parent-moved-spec : {M : Type 1} → statement M
 parent-moved-spec =
     tie.close
     (tie.spec
-    (λ c. search needs)
-    (λ c. search needs)
+    (λ c. search needs) (λ c. search needs)
     (λ c. parent-top _ (c .before .before .before .before .args .moved .now) _ (c .if1 .taken))
     (λ c κs. search needs)
     (λ c. ⊎-elim (λ e. absurd (c .before .if1 .left e)) (λ l. omega (arith, c .wide .ensures .0)) (c .before .before .before .before .before .pre .1))

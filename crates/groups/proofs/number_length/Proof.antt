@@ -17,4 +17,8 @@ abbrev μ-loop : tie.MeasureT-loop
 
 pub number-length-spec : {M : Type 1} → statement M
 number-length-spec =
-    tie.close (tie.spec Inv-loop μ-loop (λ c. (omega arith, omega arith)) (λ c. omega arith) (λ c. omega arith) (λ c. (omega (arith, ap length (num-more _ (c .loop-test .taken))), omega arith)) (λ c. omega (arith, ap length (num-one _ (c .loop-test .left)))))
+    tie.close
+    (tie.spec
+    Inv-loop μ-loop (λ c. (omega arith, omega arith)) (λ c. omega arith) (λ c. omega arith)
+    (λ c. (omega (arith, ap length (num-more _ (c .loop-test .taken))), omega arith))
+    (λ c. omega (arith, ap length (num-one _ (c .loop-test .left)))))

@@ -24,13 +24,8 @@ pub put-number-spec : {M : Type 1} → statement M
 put-number-spec =
     tie.close
     (tie.spec
-    Inv-loop
-    μ-loop
-    (λ c. (refl, refl, refl))
-    (λ c. omega arith)
-    (λ c. omega arith)
-    (λ c κs. omega (arith, ap length (num-more _ (c .before .loop-test .taken))))
-    (λ c. omega arith)
+    Inv-loop μ-loop (λ c. (refl, refl, refl)) (λ c. omega arith) (λ c. omega arith)
+    (λ c κs. omega (arith, ap length (num-more _ (c .before .loop-test .taken)))) (λ c. omega arith)
     (λ c.
     let p1 = c .before .before in let t = p1 .before .before in let h = t .before in
     let m = num-more (h .loop .rest) (t .loop-test .taken) in
@@ -40,9 +35,7 @@ put-number-spec =
       omega (arith, ap length m),
       omega arith,
     ))
-    (λ c. omega arith)
-    (λ c κs. omega (arith, ap length (num-one _ (c .before .loop-test .left))))
-    (λ c. search needs)
+    (λ c. omega arith) (λ c κs. omega (arith, ap length (num-one _ (c .before .loop-test .left)))) (λ c. search needs)
     (λ c.
     let p1 = c .before .before in let t = p1 .before .before in let h = t .before in
     let m = num-one (h .loop .rest) (t .loop-test .left) in
