@@ -14,9 +14,9 @@ use lib.Dec.{eqb}
 use borrow.Author.Tests.{eq-eqb, ne-eqb}
 use Rattle.meaning.specs.Limits.{mostNodes}
 use Rattle.meaning.specs.Tree.{Forest, bare, tree, size}
-use Rattle.rows.specs.Rows.{tagAt, shape, mapT, treeRows, Holds, width, Counted, Hung, noRow, Rows}
+use Rattle.rows.specs.Rows.{tagAt, shape, mapT, treeRows, Holds, width, Counted, Hung, noRow}
 use Rattle.rows.proofs.Rows.{size-mapT, width-mapT, size-holds, holds-is, row-opens, rows-top, row-up}
-use Rattle.onto.specs.Left.{goneRow, kept, left, keptTree}
+use Rattle.onto.specs.Left.{goneRow, kept, left}
 use Rattle.onto.proofs.Left.{kept-bare, kept-here, kept-away}
 use Rattle.fold.specs.Kept.{SomeGone, Remains, parentMoved, Movable, RowMoved, RowsKept}
 
