@@ -1,5 +1,5 @@
--- The children of one row folded to the end (01, Folding): the list of those that are there, the search for the first that folds onto another one, and what
--- is left.
+-- The children of one row folded to the end (01, Folding): the list of those that are there, the search for the first that folds onto another
+-- one, and what is left.
 use mathlib.Core.Path.{_≡_}
 use mathlib.Core.Logic.{_⊎_}
 use mathlib.Core.List.{List}

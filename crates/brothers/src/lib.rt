@@ -28,7 +28,8 @@ fn list_children(span: &[u16], up: &[u16], p: usize, child: &mut [u16]) -> usize
     k
 }
 
-// The first foldable pair: the place of the first of k listed children, from place `from` on, that folds onto another of them, or k where there is none.
+// The first foldable pair: the place of the first of k listed children, from place `from` on, that folds onto another of them, or k where
+// there is none.
 fn first_foldable(
     code: &[u32],
     mark: &[u8],

@@ -49,7 +49,8 @@ module _ (code mark span up : List ℕ) (p u e : ℕ) (F : Forest ℕ) (h : Hold
   B = leftBelow code mark span up
 
   -- where all are there, folded below, they fold onto the whole and back
-  equal-brothers : ((c : ℕ) → Brother c F → getD up c 0 ≡ p) → ((c : ℕ) → Brother c F → Equal (M (below span c)) (B c)) → Equal (M F) (left code mark up p F)
+  equal-brothers : ((c : ℕ) → Brother c F → getD up c 0 ≡ p) → ((c : ℕ) → Brother c F → Equal (M (below span c)) (B c))
+      → Equal (M F) (left code mark up p F)
   unfolding mapT
   equal-brothers =
       left-ind code mark span up p

@@ -24,10 +24,14 @@ pub record Whole (code mark span up : List ℕ) (n : ℕ) : Type 0 where
   pub hung : Hung up noRow (shape span n)
   pub single : width (shape span n) ≤ 1
 
+-- some of n rows have gone, but not the top, and no more has changed
+abbrev pub SomeGone : ℕ → List ℕ → List ℕ → Type 0
+SomeGone n up up′ = (j : ℕ) → (getD up′ j 0 ≡ getD up j 0) ⊎ ((0 < j) × (j < n) × (getD up′ j 0 ≡ goneRow))
+
 -- the rows are folded to the end: what is left is the minimal tree up to the order of brothers, and rows below the top have gone, no more
 pub record RowsFolded (code mark span up : List ℕ) (n : ℕ) (up′ : List ℕ) : Type 0 where
   pub least : ordered (keptTree code mark span up′ n) ≡ ordered (minimal (treeRows code mark span n))
-  pub only : (j : ℕ) → (getD up′ j 0 ≡ getD up j 0) ⊎ ((0 < j) × (j < n) × (getD up′ j 0 ≡ goneRow))
+  pub only : SomeGone n up up′
 
 -- ------------------------------------------------------------------ the rows that are left, one after the other
 -- the rows of a tree of which some have gone, but not the top
@@ -36,7 +40,7 @@ pub record Remains (code mark span up : List ℕ) (n : ℕ) : Type 0 where
   pub was : List ℕ
   pub rows : Rows code mark kids span was n
   pub ups : n ≤ length up
-  pub only : (j : ℕ) → (getD up j 0 ≡ getD was j 0) ⊎ ((0 < j) × (j < n) × (getD up j 0 ≡ goneRow))
+  pub only : SomeGone n was up
 
 -- the new number of row i's parent, when row p has moved to row `getD moved p 0`
 unfoldable pub parentMoved : List ℕ → List ℕ → ℕ → ℕ

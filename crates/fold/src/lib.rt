@@ -53,7 +53,8 @@ fn move_row(
     j: usize,
 )
     requires { ⌜ Movable (now code) (now mark) (now up) i (now parent) (now moved) j ⌝ }
-    ensures { λ _. ⌜ RowMoved (now (code .entry)) (now (mark .entry)) (now (up .entry)) i (now (parent .entry)) (now (moved .entry)) j (now (code .exit)) (now (mark .exit)) (now (parent .exit)) (now (moved .exit)) ⌝ }
+    ensures { λ _. ⌜ RowMoved (now (code .entry)) (now (mark .entry)) (now (up .entry)) i (now (parent .entry)) (now (moved .entry)) j
+        (now (code .exit)) (now (mark .exit)) (now (parent .exit)) (now (moved .exit)) ⌝ }
 {
     code[j] = code[i];
     mark[j] = mark[i];
@@ -72,7 +73,8 @@ pub fn keep_rows(
     moved: &mut [u16],
 ) -> usize
     requires { ⌜ Remains (now code) (now mark) (now span) (now up) n × (n ≤ length (now parent)) × (n ≤ length (now moved)) ⌝ }
-    ensures { λ r. ⌜ RowsKept (now (code .entry)) (now (mark .entry)) (now (span .entry)) (now (up .entry)) n (now (code .exit)) (now (mark .exit)) (now (parent .exit)) r ⌝ }
+    ensures { λ r. ⌜ RowsKept (now (code .entry)) (now (mark .entry)) (now (span .entry)) (now (up .entry)) n
+        (now (code .exit)) (now (mark .exit)) (now (parent .exit)) r ⌝ }
 {
     let mut i: usize = 0;
     let mut j: usize = 0;

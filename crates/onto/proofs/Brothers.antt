@@ -32,7 +32,10 @@ module _ (span : List ℕ) where
   brother-next u e bare h a t = absurd t
   brother-next u e (tree i k r) h a (inl q) =
       let z : a + getD span a 0 ≡ suc i + size k = rw q (omega (arith, h .1)) in
-      rw z (⊎-elim inl (λ t. inr (inr t)) (brother-first _ e r (h .3)), λ x. ⊎-elim (λ w l. inr (w ∙ sym q)) (λ t l. absurd (omega (arith, brother-range _ e r (h .3) x t))))
+      rw z (
+        ⊎-elim inl (λ t. inr (inr t)) (brother-first _ e r (h .3)),
+        λ x. ⊎-elim (λ w l. inr (w ∙ sym q)) (λ t l. absurd (omega (arith, brother-range _ e r (h .3) x t))),
+      )
   brother-next u e (tree i k r) h a (inr t) =
       let w = brother-next _ e r (h .3) a t in
       let m = brother-range _ e r (h .3) a t .0 in
@@ -50,7 +53,12 @@ pub over-start : {span : List ℕ} {p e : ℕ} {P : ℕ → Type 0} → e ≡ p 
     → Over span p P (p + 1) e
 over-start {span} {p} q h =
     rw (q, add-one)
-    (record { ends = refl; held = h; here = brother-first span _ _ (below span p) h; shown = λ x t l. absurd (omega (arith, brother-range span _ _ (below span p) h x t)) })
+    (record {
+      ends = refl;
+      held = h;
+      here = brother-first span _ _ (below span p) h;
+      shown = λ x t l. absurd (omega (arith, brother-range span _ _ (below span p) h x t));
+    })
 
 module _ {span : List ℕ} {p : ℕ} {P : ℕ → Type 0} {a e : ℕ} (O : Over span p P a e) where
   -- row a is the next child

@@ -26,73 +26,49 @@ Inv-pair code mark span up child from k i₀ i =
 abbrev μ-pair : tie.MeasureT-pair
 μ-pair code mark span up child from k i₀ i = k - i
 
-pair-holds : tie.Need-pair-holds Inv-loop μ-loop Inv-pair μ-pair
-pair-holds c = (omega arith, c .before .before .before .before .before .pre .begun, λ x l m. absurd (omega arith))
-
-loop-holds : tie.Need-loop-holds Inv-loop μ-loop Inv-pair μ-pair
-loop-holds c = (omega arith, λ y l. absurd (omega arith))
-
-folds-onto-requires : tie.Need-folds-onto-requires Inv-loop μ-loop Inv-pair μ-pair
-folds-onto-requires c κs =
-    let p = c .before .before .before .before .before .before .before .before .before .before .before .before .pre .stand in
+pub first-foldable-spec : {M : Type 1} → statement M
+first-foldable-spec =
+    tie.close
+    (tie.spec
+    Inv-loop μ-loop Inv-pair μ-pair
+    (λ c. (omega arith, c .before .before .before .before .before .pre .begun, λ x l m. absurd (omega arith)))
+    (λ c κs. search needs) (λ c. (omega arith, λ y l. absurd (omega arith))) (λ c κs. search needs)
+    (λ c κs.
+    let t = c .before .before in
+    let p = t .before .before .before .before .before .before .before .before .before .before .pre .stand in
     let u = c .before .before .before .before in
-    (rw (u .link .ensures .0) (p _ (u .before .pair-test .taken)), rw (c .link2 .ensures .0) (p _ (c .before .before .loop-test .taken)))
-
-loop-again : tie.Need-loop-again Inv-loop μ-loop Inv-pair μ-pair
-loop-again c = (
-  omega arith,
-  below-more _ _ (c .before .before .loop .inv .1)
-      (⊎-elim (λ w n. rw (w .1 .ensures .0) at (no-told (w .2 .ensures) (w .3 .left))) (λ w n. absurd (n (w .left))) (c .if1 .came)),
-)
-
-pair-again : tie.Need-pair-again Inv-loop μ-loop Inv-pair μ-pair
-pair-again c =
-    let v = c .before .before .before .before .pair .inv in
+    (rw (u .link .ensures .0) (p _ (u .before .pair-test .taken)), rw (c .link2 .ensures .0) (p _ (t .loop-test .taken))))
+    (λ c. search needs) (λ c. search needs)
+    (λ c. (
+      omega arith,
+      below-more _ _ (c .before .before .loop .inv .1)
+          (⊎-elim (λ w n. rw (w .1 .ensures .0) at (no-told (w .2 .ensures) (w .3 .left))) (λ w n. absurd (n (w .left))) (c .if1 .came)),
+    ))
+    (λ c. search needs) (λ c. search needs)
+    (λ c.
+    let l1 = c .before .before in
+    let v = l1 .before .before .pair .inv in
     let w = c .before .loop .inv .1 in (
       omega (arith, v .0),
-      omega (arith, c .before .before .before .pair-test .taken),
-      below-more _ _ (v .2) (λ l f. w (f .0) (omega (arith, f .1)) (f .2) (rw (c .before .before .link .ensures .0) (f .3))),
-    )
-
-returns : tie.Need-returns Inv-loop μ-loop Inv-pair μ-pair
-returns c =
+      omega (arith, l1 .before .pair-test .taken),
+      below-more _ _ (v .2)
+          (λ l f. w (f .0) (omega (arith, f .1)) (f .2) (rw (l1 .link .ensures .0) (f .3))),
+    ))
+    (λ c.
     let v = c .before .pair .inv in
-    record { begun = v .0; until = v .1; before = v .2; here = λ l. absurd (omega arith) }
-
-returns-2 : tie.Need-returns-2 Inv-loop μ-loop Inv-pair μ-pair
-returns-2 c =
-    let v = c .before .before .before .before .before .before .before .before .pair .inv in
+    record { begun = v .0; until = v .1; before = v .2; here = λ l. absurd (omega arith) })
+    (λ c.
+    let l1 = c .before .before in let t = l1 .before .before in
+    let v = t .before .before .before .before .pair .inv in
     record {
       begun = v .0;
       until = v .1;
       before = v .2;
       here = λ l. (
         _,
-        c .before .before .before .before .loop-test .taken,
-        c .before .before .before .if1 .taken,
-        rw (c .before .before .before .before .before .before .link .ensures .0, c .before .before .link2 .ensures .0)
+        t .loop-test .taken,
+        l1 .before .if1 .taken,
+        rw (t .before .before .link .ensures .0, l1 .link2 .ensures .0)
             at (yes-told (c .before .folds-onto .ensures) (c .if2 .taken)),
       );
-    }
-
-pub first-foldable-spec : {M : Type 1} → statement M
-first-foldable-spec =
-    tie.close
-    (tie.spec
-    Inv-loop
-    μ-loop
-    Inv-pair
-    μ-pair
-    pair-holds
-    (λ c κs. search needs)
-    loop-holds
-    (λ c κs. search needs)
-    folds-onto-requires
-    (λ c. search needs)
-    (λ c. search needs)
-    loop-again
-    (λ c. search needs)
-    (λ c. search needs)
-    pair-again
-    returns
-    returns-2)
+    }))

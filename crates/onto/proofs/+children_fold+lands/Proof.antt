@@ -67,28 +67,34 @@ pub +children-fold+lands-spec : {M : Type 1} → statement M
     (λ c. let f = stands-few (c .before .before .before .before .before .pre .1 .0) refl in omega arith)
     (λ c. over-start (rw (c .link .ensures .0)) (c .before .before .before .before .before .pre .1 .0 .held))
     -- the children of u
-    (λ c κs. stands-in (stands-child (c .before .before .before .before .before .before .before .pre .1 .0) (c .before .loop .inv) (c .loop-test .taken)) .3)
     (λ c κs.
-    let s = c .before .before .before .before .before .before .before .before .before in
-    let O = c .before .before .before .loop .inv in
-    let l = c .before .before .loop-test .taken in
+    stands-in (stands-child (c .before .before .before .before .before .before .before .pre .1 .0) (c .before .loop .inv) (c .loop-test .taken)) .3)
+    (λ c κs.
+    let t = c .before .before in let s = t .before .before .before .before .before .before .before in
+    let O = t .before .loop .inv in
+    let l = t .loop-test .taken in
     (omega (arith, s .pre .0, height-falls (s .pre .1 .0) O l), (stands-child (s .pre .1 .0) O l, s .pre .1 .1)))
     (λ c.
-    let s = c .before .before .before .before .before .before .before .before .before .before .before in
-    not-so (none-landed (s .pre .1 .0) (s .pre .1 .1) (c .before .before .before .before .before .loop .inv) (c .before .before .before .before .loop-test .taken)
-    (yes-told (c .before .before .before .is-child .ensures) (c .before .before .if1 .taken))
+    let i = c .before .before in let t = i .before .before in let s = t .before .before .before .before .before .before .before in
+    not-so (none-landed (s .pre .1 .0) (s .pre .1 .1) (t .before .loop .inv) (t .loop-test .taken)
+    (yes-told (i .before .is-child .ensures) (i .if1 .taken))
     (no-told (c .before .lands .ensures) (not-true _ (c .if2 .taken)))))
-    (λ c κs. stands-in (stands-child (c .before .before .before .before .before .before .before .before .before .pre .1 .0) (c .before .before .before .loop .inv) (c .before .before .loop-test .taken)) .2)
+    (λ c κs.
+    let t = c .before .before in
+    stands-in (stands-child (t .before .before .before .before .before .before .before .pre .1 .0) (t .before .loop .inv) (t .loop-test .taken)) .2)
     (λ c.
-    let S = c .before .before .before .before .before .before .before .before .before .before .pre .1 .0 in
-    let f = stands-few (stands-child S (c .before .before .before .before .loop .inv) (c .before .before .before .loop-test .taken)) (c .link2 .ensures .0) in
+    let t = c .before .before .before in
+    let S = t .before .before .before .before .before .before .before .pre .1 .0 in
+    let f = stands-few (stands-child S (t .before .loop .inv) (t .loop-test .taken)) (c .link2 .ensures .0) in
     omega arith)
     (λ c.
-    let z = over-step (c .before .before .before .before .loop .inv) (c .before .before .before .loop-test .taken) (c .link2 .ensures .0) in
+    let t = c .before .before .before in
+    let z = over-step (t .before .loop .inv) (t .loop-test .taken) (c .link2 .ensures .0) in
     omega (arith, z))
     (λ c.
-    over-next (c .before .before .before .before .loop .inv) (c .before .before .before .loop-test .taken) (c .link2 .ensures .0)
-    (⊎-elim (λ w q. yes-told (w .1 .ensures) (not-false _ (w .2 .left))) (λ w q. absurd (no-told (c .before .before .is-child .ensures) (w .left) q)) (c .before .if1 .came)))
+    let i = c .before .before in
+    over-next (i .before .before .loop .inv) (i .before .loop-test .taken) (c .link2 .ensures .0)
+    (⊎-elim (λ w q. yes-told (w .1 .ensures) (not-false _ (w .2 .left))) (λ w q. absurd (no-told (i .is-child .ensures) (w .left) q)) (c .before .if1 .came)))
     (λ c.
     let s = c .before .before .before .before .before .before .before in
     so (all-landed (s .pre .1 .0) (s .pre .1 .1) (c .before .loop .inv) (c .loop-test .left))))
@@ -110,31 +116,36 @@ pub +children-fold+lands-spec : {M : Type 1} → statement M
     (A .0, B .0, A .1, B .1, B .3))
     (λ c κs. stands-in (c .before .before .before .before .before .before .before .before .before .pre .1 .0) .2)
     (λ c.
-    let s = c .before .before .before .before .before .before .before .before .before .before .before in
-    let l = c .before .before .before .before .loop-test .taken in
+    let i = c .before .before in let t = i .before .before in let h = t .before in let s = h .before .before .before .before .before .before in
+    let l = t .loop-test .taken in
     let R = s .pre .1 .1 in
-    so (lands-here (s .pre .1 .0) R (c .before .before .before .before .before .loop .inv) l
-    (yes-told (c .before .before .before .fits-child .ensures) (c .before .before .if1 .taken))
-    (lone-folds (s .pre .1 .0) (stands-child R (c .before .before .before .before .before .loop .inv) l) (sym (c .before .link2 .ensures .0) ∙ c .if2 .taken))))
+    so (lands-here (s .pre .1 .0) R (h .loop .inv) l
+    (yes-told (i .before .fits-child .ensures) (i .if1 .taken))
+    (lone-folds (s .pre .1 .0) (stands-child R (h .loop .inv) l) (sym (c .before .link2 .ensures .0) ∙ c .if2 .taken))))
     (λ c κs.
-    let s = c .before .before .before .before .before .before .before .before .before .before .before in
-    (omega (arith, s .pre .0), (s .pre .1 .0, stands-child (s .pre .1 .1) (c .before .before .before .before .before .loop .inv) (c .before .before .before .before .loop-test .taken))))
+    let t = c .before .before .before .before in let s = t .before .before .before .before .before .before .before in
+    (omega (arith, s .pre .0), (s .pre .1 .0, stands-child (s .pre .1 .1) (t .before .loop .inv) (t .loop-test .taken))))
     (λ c.
-    let s = c .before .before .before .before .before .before .before .before .before .before .before .before .before in
-    so (lands-here (s .pre .1 .0) (s .pre .1 .1) (c .before .before .before .before .before .before .before .loop .inv) (c .before .before .before .before .before .before .loop-test .taken)
-    (yes-told (c .before .before .before .before .before .fits-child .ensures) (c .before .before .before .before .if1 .taken))
+    let i = c .before .before .before .before in let t = i .before .before in let s = t .before .before .before .before .before .before .before in
+    so (lands-here (s .pre .1 .0) (s .pre .1 .1) (t .before .loop .inv) (t .loop-test .taken)
+    (yes-told (i .before .fits-child .ensures) (i .if1 .taken))
     (yes-told (c .before .children-fold .ensures) (c .if3 .taken))))
-    (λ c κs. stands-in (stands-child (c .before .before .before .before .before .before .before .before .before .pre .1 .1) (c .before .before .before .loop .inv) (c .before .before .loop-test .taken)) .2)
+    (λ c κs.
+    let t = c .before .before in
+    stands-in (stands-child (t .before .before .before .before .before .before .before .pre .1 .1) (t .before .loop .inv) (t .loop-test .taken)) .2)
     (λ c.
-    let S = c .before .before .before .before .before .before .before .before .before .before .pre .1 .1 in
-    let f = stands-few (stands-child S (c .before .before .before .before .loop .inv) (c .before .before .before .loop-test .taken)) (c .link3 .ensures .0) in
+    let t = c .before .before .before in
+    let S = t .before .before .before .before .before .before .before .pre .1 .1 in
+    let f = stands-few (stands-child S (t .before .loop .inv) (t .loop-test .taken)) (c .link3 .ensures .0) in
     omega arith)
     (λ c.
-    let z = over-step (c .before .before .before .before .loop .inv) (c .before .before .before .loop-test .taken) (c .link3 .ensures .0) in
+    let t = c .before .before .before in
+    let z = over-step (t .before .loop .inv) (t .loop-test .taken) (c .link3 .ensures .0) in
     omega (arith, z))
     (λ c.
-    over-next (c .before .before .before .before .loop .inv) (c .before .before .before .loop-test .taken) (c .link3 .ensures .0)
-    (⊎-elim (λ w q o. no-told (w .3 .ensures) (w .4 .left) (o .1)) (λ w q o. no-told (c .before .before .fits-child .ensures) (w .left) (q, o .0)) (c .before .if1 .came)))
+    let f = c .before .before in
+    over-next (f .before .before .loop .inv) (f .before .loop-test .taken) (c .link3 .ensures .0)
+    (⊎-elim (λ w q o. no-told (w .3 .ensures) (w .4 .left) (o .1)) (λ w q o. no-told (f .fits-child .ensures) (w .left) (q, o .0)) (c .before .if1 .came)))
     (λ c.
     let s = c .before .before .before .before .before .before .before in
     not-so (lands-nowhere (s .pre .1 .0) (s .pre .1 .1) (c .before .loop .inv) (c .loop-test .left)))

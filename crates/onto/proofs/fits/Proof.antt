@@ -10,11 +10,7 @@ pub fits-spec : {M : Type 1} → statement M
 fits-spec =
     tie.close
     (tie.spec
-    (λ c. search needs)
-    (λ c. search needs)
-    (λ c. search needs)
-    (λ c. search needs)
-    (λ c κs. search needs)
+    (λ c. search needs) (λ c. search needs) (λ c. search needs) (λ c. search needs) (λ c κs. search needs)
     (λ c. not-so (λ t. no-told (c .before .label-fits .ensures) (not-true _ (c .if1 .taken)) (t .0)))
     (λ c κs. search needs)
     (λ c.

@@ -5,4 +5,8 @@ use Rattle.onto.proofs.label_fits.Statement.{statement}
 use Rattle.onto.proofs.label_fits.Tie as tie
 
 pub label-fits-spec : {M : Type 1} → statement M
-label-fits-spec = tie.close (tie.spec (λ c. so (label-any (c .before .args .x) (c .before .args .y) (c .if1 .taken))) (λ c. label-tells (c .before .args .x) (c .before .args .y) (c .if1 .left)))
+label-fits-spec =
+    tie.close
+    (tie.spec
+    (λ c. so (label-any (c .before .args .x) (c .before .args .y) (c .if1 .taken)))
+    (λ c. label-tells (c .before .args .x) (c .before .args .y) (c .if1 .left)))
