@@ -1,7 +1,7 @@
 -- Laws of bits: what an or, an and, a shift and a store do to the bits of a byte and of a row.
 use mathlib.Core.Path.{_≡_, refl, sym, ap, _∙_}
 use mathlib.Core.List.{List}
-use mathlib.Core.Bool.{Bool, true, false, not, cond, _&&_}
+use mathlib.Core.Bool.{Bool, true, false, not, cond, _&&_, and-true, and-false}
 use Prim.Native.Nat.{ℕ, zero, suc, _+_, _-_, _*_, _/_, _%_, _^_, _≤_, _<_}
 use native.Mathlib.Omega.{arith}
 use native.Mathlib.Numerals.{add-one}
@@ -117,14 +117,6 @@ mask-here k l = not-true (bitOf (255 - 2 ^ k) k) (rw (eq-eqb k k refl) at (mask-
 mask-other : (k j : ℕ) → k < 8 → j < 8 → (j ≡ k → ⊥) → bitOf (255 - 2 ^ k) j ≡ true
 mask-other k j lk lj ne = rw (ne-eqb j k ne) at (mask-at k j lk lj)
 
-and-true : (x : Bool) → (x && true) ≡ x
-and-true true = refl
-and-true false = refl
-
-and-false : (x : Bool) → (x && false) ≡ false
-and-false true = refl
-and-false false = refl
-
 -- b & (255 - (1 << k)): bit k is cleared, and every other bit is as it was
 pub keep-off : (b k : ℕ) (on : Bool) → k < 8 → on ≡ false → BitKept b k on (bitAnd b (255 - 1 * 2 ^ k % 256))
 keep-off b k on l e =
@@ -150,16 +142,8 @@ sifted-more b g k r d l t p =
 
 -- the byte in which all eight bits are set
 pub all-bits : (k : ℕ) → k < 8 → bitOf 255 k ≡ true
-unfolding bitOf
-all-bits zero l = refl
-all-bits (suc zero) l = refl
-all-bits (suc (suc zero)) l = refl
-all-bits (suc (suc (suc zero))) l = refl
-all-bits (suc (suc (suc (suc zero)))) l = refl
-all-bits (suc (suc (suc (suc (suc zero))))) l = refl
-all-bits (suc (suc (suc (suc (suc (suc zero)))))) l = refl
-all-bits (suc (suc (suc (suc (suc (suc (suc zero))))))) l = refl
-all-bits (suc (suc (suc (suc (suc (suc (suc (suc k)))))))) l = absurd (omega arith)
+unfolding allTo bitOf
+all-bits = all-to 8 (bitOf 255) refl
 
 -- the bits of a byte but the lowest, one place lower after a shift
 pub half-bit : (b k : ℕ) → bitOf (b / 2) k ≡ bitOf b (suc k)

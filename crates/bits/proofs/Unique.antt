@@ -21,7 +21,7 @@ keep-bit-unique b k on r r′ l l′ p p′ = bits-same 8 r r′ l l′ (λ j m.
     bit j m (no e) = value-same (p .other j m e) (p′ .other j m e)
 
 -- the bits of one row are told, and nothing else changes
-row-unique : (w : List ℕ) (u : ℕ) (a a′ : List ℕ) → Bytes a → Bytes a′ → OnlyRow w u a → OnlyRow w u a′
+pub row-unique : (w : List ℕ) (u : ℕ) (a a′ : List ℕ) → Bytes a → Bytes a′ → OnlyRow w u a → OnlyRow w u a′
     → ((v : ℕ) → v < 1024 → bitAt a u v ≡ bitAt a′ u v) → a ≡ a′
 row-unique w u a a′ b b′ o o′ h = bytes-same a a′ b b′ (value-same (o .same) (o′ .same)) (λ i. told i (ℕ-discrete (i / 128) u))
   where

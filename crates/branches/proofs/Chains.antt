@@ -135,7 +135,8 @@ module _ (code span : List ℕ) (u : ℕ) where
       rw (← h .0, ← z .0, chains-same (tagged code u u) (tagged code (suc u) (suc u)) (λ j. refl) (below span (suc u)))
   one-onward e (tree i k (tree j k′ r)) h w = absurd (omega arith)
 
-  all-off : (c e : ℕ) (F : Forest ℕ) → Holds span c e F → u < c → off eitherIn (mapT (tagged code u u) F) [] ≡ map branch (chains (mapT (tagged code u u) F))
+  all-off : (c e : ℕ) (F : Forest ℕ) → Holds span c e F → u < c
+      → off eitherIn (mapT (tagged code u u) F) [] ≡ map branch (chains (mapT (tagged code u u) F))
   unfolding mapT under
   all-off c e bare h l = refl
   all-off c e (tree i k r) h l =
@@ -203,7 +204,8 @@ module _ {code kids span : List ℕ} {u : ℕ} (R : Row code kids span u) (d : L
       pub onward-fits : at + length (fill from at (chainAt code span u)) ≤ length d → b + length (fill from b (onwardAt code span u)) ≤ length d₂
       onward-fits l = rest-fits (labelAt code u) (onwardAt code span u) refl d₁ (written-reached le v) w (below-fits l)
 
-      pub chain-done : {d₃ : List ℕ} {r : ℕ} → Written d₂ b (fill from b (onwardAt code span u)) d₃ r → Written d at (fill from at (chainAt code span u)) d₃ r
+      pub chain-done : {d₃ : List ℕ} {r : ℕ} → Written d₂ b (fill from b (onwardAt code span u)) d₃ r
+          → Written d at (fill from at (chainAt code span u)) d₃ r
       chain-done z =
           rest-done (child ∷ []) label-on (chain-parts code span u) d le v′
           (rest-done (labelAt code u) (onwardAt code span u) refl d₁ (written-reached le v) w z)

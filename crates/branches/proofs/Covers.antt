@@ -1,6 +1,6 @@
 -- Where a mark stands, told by row numbers: row x lies at or below row c exactly when c ≤ x < c + span c.
 use mathlib.Core.Path.{_≡_, refl, ap, _∙_}
-use mathlib.Core.Bool.{Bool, true, false, _&&_, _||_}
+use mathlib.Core.Bool.{Bool, true, false, _&&_, _||_, and-false}
 use mathlib.Core.List.{List}
 use Prim.Native.Nat.{ℕ, suc, _+_, _≤_, _<_}
 use native.Mathlib.Decide.{ℕ-discrete, decLt}
@@ -25,11 +25,7 @@ between-before : (u e x : ℕ) → x < u → between u e x ≡ false
 between-before u e x l = rw (lt-leb u x l)
 
 between-behind : (u e x : ℕ) → e ≤ x → between u e x ≡ false
-between-behind u e x l = rw (le-ltb x e l) (go (leb u x))
-  where
-    go : (b : Bool) → (b && false) ≡ false
-    go true = refl
-    go false = refl
+between-behind u e x l = rw (le-ltb x e l) (and-false (leb u x))
 
 -- row i, the rows behind it up to m, and the rows from m up to e
 between-parts : (i m e x : ℕ) → i < m → m ≤ e → (eqb i x || (between (suc i) m x || between m e x)) ≡ between i e x

@@ -67,7 +67,8 @@ run-append [] ys = refl
 run-append (x ∷ xs) ys = rw (run-append xs ys) (simp append-assoc)
 
 -- factors behind factors: something stands before the later ones if it stood before the earlier ones or these are some
-pub fill-append : (from at : ℕ) (xs ys : List Expr) → from ≤ at → fill from at (xs ++ ys) ≡ fill from at xs ++ fill from (at + length (fill from at xs)) ys
+pub fill-append : (from at : ℕ) (xs ys : List Expr) → from ≤ at
+    → fill from at (xs ++ ys) ≡ fill from at xs ++ fill from (at + length (fill from at xs)) ys
 unfolding fill run
 fill-append from at [] ys l = let z : at + 0 ≡ at = omega arith in rw z
 fill-append from at (x ∷ xs) ys l = go (ltb from at)
@@ -99,7 +100,8 @@ module _ (from at : ℕ) (bs : List ℕ) where
   unfolding factor
   factor-rest n a p l = omega (arith, length-append bs (joint (ltb from at)))
 
-  pub factor-then : {d d₁ d₂ : List ℕ} {a r : ℕ} → Written d at bs d₁ a → Written d₁ a (joint (ltb from at)) d₂ r → Written d at (factor from at bs) d₂ r
+  pub factor-then : {d d₁ d₂ : List ℕ} {a r : ℕ} → Written d at bs d₁ a → Written d₁ a (joint (ltb from at)) d₂ r
+      → Written d at (factor from at bs) d₂ r
   unfolding factor
   factor-then v w = written-then v w
 

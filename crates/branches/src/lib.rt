@@ -1,6 +1,5 @@
 // Branches and a node's own factors, written into the caller's room. Factors are joined from the left: the first of them went to place `from`, so a
 // factor that goes to a later place is followed by the sign 4.
-ghost use mathlib.Core.Path.{_≡_};
 ghost use Prim.Native.Nat.{suc, _+_, _<_, _≤_};
 ghost use lib.ListN.{length, getD};
 ghost use lib.Dec.{ltb};
@@ -34,7 +33,8 @@ pub fn put_sign(room: &mut [u8], from: usize, at: usize, sign: u32) -> usize
 
 // "its label, if any": code L + 1 is the sign 9 + L
 fn put_label(code: &[u32], u: usize, room: &mut [u8], from: usize, at: usize) -> usize
-    requires { ⌜ (u < length (now code)) × (getD (now code) u 0 ≤ suc largestLabel) × (at + length (fill from at (labelAt (now code) u)) ≤ length (now room)) ⌝ }
+    requires { ⌜ (u < length (now code)) × (getD (now code) u 0 ≤ suc largestLabel)
+        × (at + length (fill from at (labelAt (now code) u)) ≤ length (now room)) ⌝ }
     ensures { λ r. ⌜ Written (now (room .entry)) at (fill from at (labelAt (now (code .entry)) u)) (now (room .exit)) r ⌝ }
 {
     let x = code[u];
@@ -63,7 +63,8 @@ fn chain(
     from: usize,
     at: usize,
 ) -> usize
-    requires { ⌜ Row (now code) (now kids) (now span) u × (from ≤ at) × (at + length (fill from at (chainAt (now code) (now span) u)) ≤ length (now room)) ⌝ }
+    requires { ⌜ Row (now code) (now kids) (now span) u × (from ≤ at)
+        × (at + length (fill from at (chainAt (now code) (now span) u)) ≤ length (now room)) ⌝ }
     ensures { λ r. ⌜ Written (now (room .entry)) at (fill from at (chainAt (now (code .entry)) (now (span .entry)) u)) (now (room .exit)) r ⌝ }
 {
     let below = put_sign(room, from, at, 2);
@@ -119,7 +120,8 @@ pub fn own(
     from: usize,
     at: usize,
 ) -> usize
-    requires { ⌜ Row (now code) (now kids) (now span) u × (from ≤ at) × (at + length (fill from at (ownAt (now code) (now span) x y u)) ≤ length (now room)) ⌝ }
+    requires { ⌜ Row (now code) (now kids) (now span) u × (from ≤ at)
+        × (at + length (fill from at (ownAt (now code) (now span) x y u)) ≤ length (now room)) ⌝ }
     ensures { λ r. ⌜ Written (now (room .entry)) at (fill from at (ownAt (now (code .entry)) (now (span .entry)) x y u)) (now (room .exit)) r ⌝ }
 {
     let mut place = put_label(code, u, room, from, at);

@@ -36,7 +36,8 @@ pub record Safe (b : ℕ) (T : Table) (x y : ℕ) : Type 0 where
   pub right : b ≤ y
 
 moved-up : (x y b i : ℕ) → b ≤ y → b ≤ i → i ≢ y → b ≤ moved x y i
-moved-up x y b i by bi ne = by-cases (decLt i y) (λ lt. let e = moved-low x y i lt in omega arith) (λ ge. let e = moved-high x y i (omega arith) in omega arith)
+moved-up x y b i by bi ne =
+    by-cases (decLt i y) (λ lt. let e = moved-low x y i lt in omega arith) (λ ge. let e = moved-high x y i (omega arith) in omega arith)
 
 back-up : (y b i : ℕ) → b ≤ i → b ≤ back y i
 back-up y b i bi = by-cases (decLt i y) (λ lt. let e = back-low y i lt in omega arith) (λ ge. let e = back-high y i (omega arith) in omega arith)
@@ -225,7 +226,8 @@ module _ {A B : Table} (ta : Tree A) (tb : Tree B) (a b : ℕ) (liveA : Live A a
     edge-left : (i p : ℕ) (l : Lab) → at A i ≡ some (node (some p) l) → (k : Lab) × (at (g .rows) (g .to i) ≡ some (node (some (g .to p)) k))
     edge-left i p l e = edge-glued r i p l (at-left A B i (look-lt A i e) ∙ e)
 
-    edge-right : (j q : ℕ) (k : Lab) → at B j ≡ some (node (some q) k) → (l : Lab) × (at (g .rows) (g .to (length A + j)) ≡ some (node (some (g .to (length A + q))) l))
+    edge-right : (j q : ℕ) (k : Lab) → at B j ≡ some (node (some q) k)
+        → (l : Lab) × (at (g .rows) (g .to (length A + j)) ≡ some (node (some (g .to (length A + q))) l))
     edge-right j q k e = edge-glued r (length A + j) (length A + q) k (at-right A B j ∙ ap (mapped (relink (shift A))) e)
 
     -- glued nodes have glued parents, until one of them has none
@@ -333,5 +335,6 @@ module _ {T : Table} (tr : Tree T) (x y : ℕ) (lx : Live T x) (ly : Live T y) w
       )
 
       go : (c : Dec (depth (length T) T x ≡ depth (length T) T y)) → Within T x y (pick c (glue (length T) T x y) none)
-      go (yes e) = done (level-depth e) (glue (length T) T x y) (glue-right (length T) T x y (linked-closed T (tr .lev) (tr .linked)) lx ly (omega arith))
+      go (yes e) =
+          done (level-depth e) (glue (length T) T x y) (glue-right (length T) T x y (linked-closed T (tr .lev) (tr .linked)) lx ly (omega arith))
       go (no ne) = λ D h lay e. ne (depth-level tr x lx ∙ level-laid tr D h lay x y lx ly e ∙ sym (depth-level tr y ly))

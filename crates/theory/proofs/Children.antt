@@ -60,7 +60,8 @@ kids-complete : (u : Option ℕ) (T : Table) (b i : ℕ) → ChildRow T u i → 
 kids-complete u [] b i (l, e) = never cc
 kids-complete u (node v k ∷ T) b zero (l, e) =
     let q : v ≡ u = cc in subst (λ z. Among (b + 0) (choose (sameLink u z) b (kidsFrom u T (suc b)))) (sym q) (rw (link-same u) (inl (omega arith)))
-kids-complete u (node v k ∷ T) b (suc i) c = go (sameLink u v) (subst (λ z. Among z (kidsFrom u T (suc b))) (let q : suc b + i ≡ b + suc i = omega arith in q) (kids-complete u T (suc b) i c))
+kids-complete u (node v k ∷ T) b (suc i) c =
+    go (sameLink u v) (subst (λ z. Among z (kidsFrom u T (suc b))) (let q : suc b + i ≡ b + suc i = omega arith in q) (kids-complete u T (suc b) i c))
   where
     go : (t : Bool) → Among (b + suc i) (kidsFrom u T (suc b)) → Among (b + suc i) (choose t b (kidsFrom u T (suc b)))
     go true x = inr x
@@ -83,7 +84,8 @@ only-kid u (r ∷ T) b j only x = go (only-kid u T (suc b) j) (linkIs u r) only 
     none-left (i ∷ js) no-i = absurd (no-i i (inl refl))
 
     go : (((i : ℕ) → Among i (kidsFrom u T (suc b)) → i ≡ j) → Among j (kidsFrom u T (suc b)) → kidsFrom u T (suc b) ≡ j ∷ []) → (t : Bool)
-        → ((i : ℕ) → Among i (choose t b (kidsFrom u T (suc b))) → i ≡ j) → Among j (choose t b (kidsFrom u T (suc b))) → choose t b (kidsFrom u T (suc b)) ≡ j ∷ []
+        → ((i : ℕ) → Among i (choose t b (kidsFrom u T (suc b))) → i ≡ j) → Among j (choose t b (kidsFrom u T (suc b)))
+        → choose t b (kidsFrom u T (suc b)) ≡ j ∷ []
     go ih false o y = ih o y
     go ih true o y =
         let ej : b ≡ j = o b (inl refl) in

@@ -85,7 +85,8 @@ module _ {T : Table} {x y : ℕ} {u v : Option ℕ} {l k : Lab} (w : Merge T x y
     rowI = la .row;
     rowJ = lb .row;
     apart = c .apart;
-    forced = λ h con e. now h e (la .toPlace) ∙ c .forced (λ z. h (back y z)) (congruent-merged w m h e con) (close h con e) ∙ sym (now h e (lb .toPlace));
+    forced =
+        λ h con e. now h e (la .toPlace) ∙ c .forced (λ z. h (back y z)) (congruent-merged w m h e con) (close h con e) ∙ sym (now h e (lb .toPlace));
   }
     where
       la : LabelOf T (moved x y) (c .i) (c .a)
@@ -160,7 +161,9 @@ links-right n rec {T} {x} {y} (some p) (some q) {l} {k} m w em cl le = through w
     N = merged T x y (some p) m
 
     closed : Closed N
-    closed i j l₀ e = let a = edge-merged w m i j l₀ e in subst (Live N) (a .toHigh) (live-merged w m em (a .high) (cl (a .low) (a .high) (a .bears) (a .row)))
+    closed i j l₀ e =
+        let a = edge-merged w m i j l₀ e in
+        subst (Live N) (a .toHigh) (live-merged w m em (a .high) (cl (a .low) (a .high) (a .bears) (a .row)))
 links-right n rec {T} {x} {y} (some p) none m w em cl le =
     through w m em 0 0 (λ t e p₀ q₀ ep eq. never cc) (λ h con e. refl) (some (unchanged (merged T x y (some p) m))) (quotient-self (merged T x y (some p) m) 0 0 refl)
 links-right n rec {T} {x} {y} none v m w em cl le =
@@ -180,7 +183,8 @@ glue-right (suc n) T x y cl (u, l, ex) (v, k, ey) le = step (glue-right n) (ℕ-
     step rec (no ne) = rw (ex, ey) (labels rec ne (meet l k) refl)
 
 -- ------------------------------------------------------------------ what follows for the glued table
-pub laid : (D : Doc) (T : Table) (h : ℕ → ℕ) → Laying D T h → (i : ℕ) {u : Option ℕ} {l : Lab} → at T i ≡ some (node u l) → RowKept D h i (some (node u l))
+pub laid : (D : Doc) (T : Table) (h : ℕ → ℕ) → Laying D T h → (i : ℕ) {u : Option ℕ} {l : Lab} → at T i ≡ some (node u l)
+    → RowKept D h i (some (node u l))
 laid D T h lay i e = subst (RowKept D h i) e (lay i)
 
 -- parents of one node are one node
@@ -214,7 +218,8 @@ module _ {T : Table} {x y : ℕ} {g : Glued} (r : Quotient T x y g) where
   pub laying-up : (D : Doc) (h : ℕ → ℕ) → Laying D (g .rows) h → Laying D T (λ j. h (g .to j))
   laying-up D h lay j = go (at T j) refl
     where
-      edge : (u : Option ℕ) {l : Lab} (a : Kept (λ p. p) (g .to) (g .rows) (g .to j) u l) → EdgeKept D h (g .to j) (a .up) → EdgeKept D (λ z. h (g .to z)) j u
+      edge : (u : Option ℕ) {l : Lab} (a : Kept (λ p. p) (g .to) (g .rows) (g .to j) u l) → EdgeKept D h (g .to j) (a .up)
+          → EdgeKept D (λ z. h (g .to z)) j u
       edge none a e = tt
       edge (some p) a e =
           let (q, eq, et) = a .edge p refl in subst (EdgeKept D h (g .to j)) (eq ∙ ap some et) e

@@ -60,7 +60,8 @@ pub fork-left : (A : Table) (f g : ℕ → ℕ) (i : ℕ) → i < length A → f
 fork-left A f g i lt = pick-yes (decLt i (length A)) (f i) (g (i - length A)) lt
 
 pub fork-right : (A : Table) (f g : ℕ → ℕ) (j : ℕ) → fork A f g (length A + j) ≡ g j
-fork-right A f g j = pick-no (decLt (length A + j) (length A)) (f (length A + j)) (g ((length A + j) - length A)) (λ lt. omega arith) ∙ ap g (omega arith)
+fork-right A f g j =
+    pick-no (decLt (length A + j) (length A)) (f (length A + j)) (g ((length A + j) - length A)) (λ lt. omega arith) ∙ ap g (omega arith)
 
 -- ------------------------------------------------------------------ layings
 module _ (D : Doc) (A B : Table) where

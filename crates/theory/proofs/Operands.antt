@@ -60,7 +60,8 @@ chains-need (tree b j r) = go r ((chains-need j) .1) ((chains-need r) .0)
   where
     go : (r′ : Forest Tag) → AsOnward j → AsBranches r′ → AsBranches (tree b j r′) × AsOnward (tree b j r′)
     go bare ij ir = (λ h e. (branch-need h b j ij (omega arith), tt), λ h e. chain-need h b j ij (omega arith))
-    go (tree c i s) ij ir = (λ h e. (branch-need h b j ij (omega arith), ir h (omega arith)), λ h e. (branch-need h b j ij (omega arith), ir h (omega arith)))
+    go (tree c i s) ij ir =
+        (λ h e. (branch-need h b j ij (omega arith), ir h (omega arith)), λ h e. (branch-need h b j ij (omega arith), ir h (omega arith)))
 
 parts-need : (h : ℕ) (f : Forest Tag) → size f + 3 ≤ h + h → Parts (Small h) f
 parts-need h bare e = tt

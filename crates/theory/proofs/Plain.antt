@@ -84,7 +84,8 @@ module _ (P Q : Query) (vp : TreeQuery P) (vq : TreeQuery Q) where
           next : (o : Option Glued) → Within (g .rows) x y o → GluesO (Both P Q) P Q (placed o (g .to (P .s)) x)
           next none c = λ D m n s. let (h, lay, hs, hd, e) = both D m n s in c D h lay e
           next (some g′) (r, tree) = record {
-            valid = record { tree = tree; sLive = live-glued r (g .to (P .s)) (a .liveA (P .s) (vp .sLive)); dLive = live-glued r x (a .liveA (P .d) (vp .dLive)) };
+            valid =
+                record { tree = tree; sLive = live-glued r (g .to (P .s)) (a .liveA (P .s) (vp .sLive)); dLive = live-glued r x (a .liveA (P .d) (vp .dLive)) };
             means = λ D m n. (
               λ s. let (h, lay, hs, hd, e) = both D m n s in
                   let still = still-glued r D h lay e in

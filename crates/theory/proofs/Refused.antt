@@ -72,7 +72,8 @@ small-run (suc k) word at st =
 
     number : ((next : ℕ) (st′ : Pending) → Small 6 (length word) (run k word next st′)) → at ≤ length word → (g : Got)
         → Small 6 (length word) (onNumber (λ next st′. run k word next st′) at st g)
-    number go le (got v n) = small-then 6 (length word) (takes v st at) (run k word (at + n)) (wider 6 at (length word) le (takes v st at) (small-takes v st at)) (go (at + n))
+    number go le (got v n) =
+        small-then 6 (length word) (takes v st at) (run k word (at + n)) (wider 6 at (length word) le (takes v st at) (small-takes v st at)) (go (at + n))
     number go le broken = (omega arith, le)
 
 pub small-word : (word : List ℕ) → Small 6 4096 (readWord word)

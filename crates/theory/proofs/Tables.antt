@@ -40,7 +40,8 @@ module _ (F : Forest Tag) where
   row-at : (i : ℕ) (x : Entry) → look (entries F none 0) i ≡ some x → at (tableOf F .rows) i ≡ some (rowOf x)
   row-at i x e = look-map rowOf (entries F none 0) i ∙ ap (mapped rowOf) e
 
-  entry-at : (i : ℕ) (u : Option ℕ) (l : Lab) → at (tableOf F .rows) i ≡ some (node u l) → (x : Entry) × (look (entries F none 0) i ≡ some x) × (x .up ≡ u)
+  entry-at : (i : ℕ) (u : Option ℕ) (l : Lab) → at (tableOf F .rows) i ≡ some (node u l)
+      → (x : Entry) × (look (entries F none 0) i ≡ some x) × (x .up ≡ u)
   entry-at i u l e = go (look (entries F none 0) i) refl
     where
       go : (o : Option Entry) → look (entries F none 0) i ≡ o → (x : Entry) × (look (entries F none 0) i ≡ some x) × (x .up ≡ u)
@@ -63,7 +64,9 @@ module _ (a : Tag) (k : Forest Tag) where
       go (x, ex, eu) = up (entry-parent a k i x ex)
         where
           up : Below (entries F none 0) (suc i) x → (p < suc i) × Live T p
-          up (j, y, lt, ey, ej, h) = let z : j ≡ p = cc in (omega arith, (y .up, y .tag .lab, row-at F p y (subst (λ n. look (entries F none 0) n ≡ some y) z ey)))
+          up (j, y, lt, ey, ej, h) =
+              let z : j ≡ p = cc in
+              (omega arith, (y .up, y .tag .lab, row-at F p y (subst (λ n. look (entries F none 0) n ≡ some y) z ey)))
 
   top-first : (i : ℕ) → Root T i → i ≡ 0
   top-first zero r = refl
@@ -102,7 +105,9 @@ kids u xs b = kidsFrom u (map rowOf xs) b
 
 kids-append : (u : Option ℕ) (xs ys : List Entry) (b : ℕ) → kids u (xs ++ ys) b ≡ kids u xs b ++ kids u ys (b + length xs)
 kids-append u [] ys b = ap (kids u ys) (let z : b ≡ b + 0 = omega arith in z)
-kids-append u (x ∷ xs) ys b = let z : suc b + length xs ≡ b + suc (length xs) = omega arith in go (sameLink u (x .up)) (rw z at (kids-append u xs ys (suc b)))
+kids-append u (x ∷ xs) ys b =
+    let z : suc b + length xs ≡ b + suc (length xs) = omega arith in
+    go (sameLink u (x .up)) (rw z at (kids-append u xs ys (suc b)))
   where
     go : (t : Bool) → kids u (xs ++ ys) (suc b) ≡ kids u xs (suc b) ++ kids u ys (b + suc (length xs))
         → choose t b (kids u (xs ++ ys) (suc b)) ≡ choose t b (kids u xs (suc b)) ++ kids u ys (b + suc (length xs))
@@ -192,7 +197,8 @@ module _ (F : Forest Tag) (t : QueryTree F) where
   tag-at : (i : ℕ) (x : Entry) → look (entries F none 0) i ≡ some x → tagOf (tableOf F) i ≡ x .tag
   tag-at i x e = λ j. record { lab = labRow (row-at F i x e j); src = mark-at src (t .source) i x e j; dst = mark-at dst (t .dest) i x e j }
 
-  plant-tops : (f : Forest Tag) (p : Option ℕ) (b : ℕ) → Part (entries F none 0) f p b → (n : ℕ) → size f ≤ n → plant (tagOf (tableOf F)) (grow n (tableOf F)) (tops f b) ≡ f
+  plant-tops : (f : Forest Tag) (p : Option ℕ) (b : ℕ) → Part (entries F none 0) f p b → (n : ℕ) → size f ≤ n
+      → plant (tagOf (tableOf F)) (grow n (tableOf F)) (tops f b) ≡ f
   plant-tops bare p b part n le = refl
   plant-tops (tree a k r) p b part zero le = absurd (omega arith)
   plant-tops (tree a k r) p b part (suc n) le =

@@ -118,7 +118,11 @@ either-counts k e =
     let o = on-dst k e in
     let os = ap (count src) o in let od = ap (count dst) o in let oa = ap marks (aside-either k) in
     let s = aside-count src k in let s₁ = count-ways src dstIn A in
-    let d = aside-count dst k in let d₁ = aside-count dst A in let d₂ = count-ways dst srcIn k in let d₃ = count-ways dst dstIn k in let d₄ = count-ways dst dstIn A in
+    let d = aside-count dst k in
+    let d₁ = aside-count dst A in
+    let d₂ = count-ways dst srcIn k in
+    let d₃ = count-ways dst dstIn k in
+    let d₄ = count-ways dst dstIn A in
     (omega arith, omega arith, omega arith)
 
 -- a tree that holds both marks has them
@@ -197,7 +201,8 @@ module _
 
     walk : (f : Forest Tag) (way : List Expr) → count src f ≤ 1 → count dst f ≤ 1 → someTree bothIn f ≡ true → First (factors f way) way (on bothIn f)
     walk bare way s d e = never cc
-    walk (tree a k r) way s d e = go (bothIn a k) refl e (walk k (longer way a k) (omega arith) (omega arith)) (walk r way (omega arith) (omega arith))
+    walk (tree a k r) way s d e =
+        go (bothIn a k) refl e (walk k (longer way a k) (omega arith) (omega arith)) (walk r way (omega arith) (omega arith))
       where
         F : List Expr
         F = factors k (longer way a k)
@@ -211,12 +216,14 @@ module _
             let (b, j, o, cs, cd, ca) = on-both k (omega arith) (omega arith) e′ in
             higher F way a k b j (omega arith) (omega arith) o ca (subst (First F (longer way a k)) o (ih e′))
 
-        go : (x : Bool) → bothIn a k ≡ x → (x || someTree bothIn r) ≡ true → Below → (someTree bothIn r ≡ true → First (factors r way) way (on bothIn r))
+        go : (x : Bool) → bothIn a k ≡ x → (x || someTree bothIn r) ≡ true → Below
+            → (someTree bothIn r ≡ true → First (factors r way) way (on bothIn r))
             → First (cond x (cond (someTree bothIn k) F (around way a k)) (factors r way)) way (cond x (tree a k (on bothIn r)) (on bothIn r))
         go true x e′ ik ir = below x ik (someTree bothIn k) refl
         go false x e′ ik ir = ir e′
 
-    pub factors-ind : (a : Tag) (k : Forest Tag) → count src (tree a k bare) ≡ 1 → count dst (tree a k bare) ≡ 1 → G (factors (tree a k bare) []) [] a k
+    pub factors-ind : (a : Tag) (k : Forest Tag) → count src (tree a k bare) ≡ 1 → count dst (tree a k bare) ≡ 1
+        → G (factors (tree a k bare) []) [] a k
     factors-ind a k s d =
         let b = top-both a k s d in
         let F : List Expr = factors (tree a k bare) [] in

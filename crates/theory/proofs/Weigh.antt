@@ -1,4 +1,5 @@
--- Every row of a tree query stands once in the tree that is read off it: whatever is counted, the tree has as many such nodes as the table has such rows.
+-- Every row of a tree query stands once in the tree that is read off it: whatever is counted, the tree has as many such nodes as the table
+-- has such rows.
 -- So the tree has as many nodes as the table has rows, and one node is s and one is d.
 use mathlib.Core.Path.{_≡_, refl, sym, ap, subst, _∙_}
 use mathlib.Core.Logic.{_≢_, inl, inr}
@@ -38,7 +39,10 @@ sum-one j (suc n) = let z = sum-one (suc j) n in omega arith
 
 sum-same : (f g : ℕ → ℕ) (j n : ℕ) → ((i : ℕ) → j ≤ i → i < j + n → f i ≡ g i) → sumFrom f j n ≡ sumFrom g j n
 sum-same f g j zero e = refl
-sum-same f g j (suc n) e = let x = e j (omega arith) (omega arith) in let y = sum-same f g (suc j) n (λ i lo hi. e i (omega arith) (omega arith)) in omega arith
+sum-same f g j (suc n) e =
+    let x = e j (omega arith) (omega arith) in
+    let y = sum-same f g (suc j) n (λ i lo hi. e i (omega arith) (omega arith)) in
+    omega arith
 
 sum-add : (f g : ℕ → ℕ) (j n : ℕ) → sumFrom (λ i. f i + g i) j n ≡ sumFrom f j n + sumFrom g j n
 sum-add f g j zero = refl
@@ -81,7 +85,8 @@ partition g N (node (some q) l ∷ C) b below =
     miss p ne (no ne′) = refl
 
 -- ------------------------------------------------------------------ counting in the tree, and in the table
-count-plant : (p : Tag → Bool) (tag : ℕ → Tag) (f : ℕ → Forest Tag) (js : List ℕ) → count p (plant tag f js) ≡ sumOver (λ j. bit (p (tag j)) + count p (f j)) js
+count-plant : (p : Tag → Bool) (tag : ℕ → Tag) (f : ℕ → Forest Tag) (js : List ℕ)
+    → count p (plant tag f js) ≡ sumOver (λ j. bit (p (tag j)) + count p (f j)) js
 count-plant p tag f [] = refl
 count-plant p tag f (j ∷ js) = let z = count-plant p tag f js in omega arith
 
@@ -112,7 +117,8 @@ module _ (Q : Query) (q : TreeQuery Q) where
       below j = bit (p (tagOf Q j)) + count p (grow (nodes Q) Q j)
 
       next : (i : ℕ) → i < nodes Q → count p (grow (nodes Q) Q i) ≡ sumOver below (kidsFrom (some i) (Q .rows) 0)
-      next i lt = ap (count p) (grow-enough (nodes Q) i (lt-live (Q .rows) i lt) (omega arith)) ∙ count-plant p (tagOf Q) (grow (nodes Q) Q) (kidsFrom (some i) (Q .rows) 0)
+      next i lt =
+          ap (count p) (grow-enough (nodes Q) i (lt-live (Q .rows) i lt) (omega arith)) ∙ count-plant p (tagOf Q) (grow (nodes Q) Q) (kidsFrom (some i) (Q .rows) 0)
 
 -- ------------------------------------------------------------------ nodes, s and d
 -- the tree has a node for each row

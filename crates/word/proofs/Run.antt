@@ -49,4 +49,5 @@ module _ (w : List ℕ) where
 
         -- a sign that is taken, and the place `next` behind it
         pub run-sign : {st′ : Pending} {next : ℕ} → next ≡ at + n → takes v st at ≡ answered st′ → runFrom w at st ≡ runFrom w next st′
-        run-sign {st′} {next} p q = rw (run-open, e, q, ← p) (run-enough w (length w - at) (length w - next) next st′ (omega (arith, number-read w at v n e .1)) (omega arith))
+        run-sign {st′} {next} p q =
+            rw (run-open, e, q, ← p) (run-enough w (length w - at) (length w - next) next st′ (omega (arith, number-read w at v n e .1)) (omega arith))

@@ -5,8 +5,5 @@ use borrow.Author.Needs.{needs}
 use Rattle.bits.proofs.bit_of.Statement.{statement}
 use Rattle.bits.proofs.bit_of.Tie as tie
 
-returns : tie.Need-returns
-returns c = unfold bitOf in rw (and-one _)
-
 pub bit-of-spec : {M : Type 1} → statement M
-bit-of-spec = tie.close (tie.spec (λ c. search needs) (λ c. search needs) returns)
+bit-of-spec = tie.close (tie.spec (λ c. search needs) (λ c. search needs) (λ c. unfold bitOf in rw (and-one _)))

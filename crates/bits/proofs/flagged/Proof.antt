@@ -15,30 +15,17 @@ Inv-loop b flags from r₀ k₀ r k = (k ≤ 8) × Sifted b (λ j. eqb (getD fla
 abbrev μ-loop : tie.MeasureT-loop
 μ-loop b flags from r₀ k₀ r k = 8 - k
 
-returns : tie.Need-returns Inv-loop μ-loop
-returns c = flagged-none _ (λ j. eqb (getD (c .before .before .args .flags .now) (c .before .before .args .from + j) 0) 1) (c .if1 .taken)
-
-loop-holds : tie.Need-loop-holds Inv-loop μ-loop
-loop-holds c = (omega arith, sifted-none _ _)
-
-loop-again : tie.Need-loop-again Inv-loop μ-loop
-loop-again c = (omega arith, sifted-more _ (λ j. eqb (getD (c .before .before .before .before .before .before .args .flags .now) (c .before .before .before .before .before .before .args .from + j) 0) 1) _ _ _ (c .before .before .loop-test .taken) (c .before .before .before .loop .inv .1) (c .keep-bit .ensures))
-
-returns-2 : tie.Need-returns-2 Inv-loop μ-loop
-returns-2 c = λ k l. c .before .loop .inv .1 .low k (omega arith)
-
 pub flagged-spec : {M : Type 1} → statement M
 flagged-spec =
     tie.close
     (tie.spec
-    Inv-loop
-    μ-loop
-    returns
-    loop-holds
-    (λ c. search needs)
-    (λ c. search needs)
-    (λ c κs. search needs)
-    (λ c. search needs)
-    (λ c. search needs)
-    loop-again
-    returns-2)
+    Inv-loop μ-loop
+    (λ c. let s = c .before .before in flagged-none _ (λ j. eqb (getD (s .args .flags .now) (s .args .from + j) 0) 1) (c .if1 .taken))
+    (λ c. (omega arith, sifted-none _ _)) (λ c. search needs) (λ c. search needs) (λ c κs. search needs) (λ c. search needs) (λ c. search needs)
+    (λ c.
+    let t = c .before .before in let s = t .before .before .before .before in (
+      omega arith,
+      sifted-more _ (λ j. eqb (getD (s .args .flags .now) (s .args .from + j) 0) 1) _ _ _ (t .loop-test .taken)
+          (t .before .loop .inv .1) (c .keep-bit .ensures),
+    ))
+    (λ c. λ k l. c .before .loop .inv .1 .low k (omega arith)))

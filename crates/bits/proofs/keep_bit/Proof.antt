@@ -4,11 +4,9 @@ use borrow.Author.Needs.{needs}
 use Rattle.bits.proofs.keep_bit.Statement.{statement}
 use Rattle.bits.proofs.keep_bit.Tie as tie
 
-returns : tie.Need-returns
-returns c = keep-on _ _ _ (c .if1 .taken)
-
-returns-2 : tie.Need-returns-2
-returns-2 c = keep-off _ _ _ (c .before .pre) (c .if1 .left)
-
 pub keep-bit-spec : {M : Type 1} → statement M
-keep-bit-spec = tie.close (tie.spec returns (λ c. search needs) (λ c. search needs) (λ c. search needs) returns-2)
+keep-bit-spec =
+    tie.close
+    (tie.spec
+    (λ c. keep-on _ _ _ (c .if1 .taken)) (λ c. search needs) (λ c. search needs) (λ c. search needs)
+    (λ c. keep-off _ _ _ (c .before .pre) (c .if1 .left)))

@@ -20,9 +20,6 @@ loop-holds : tie.Need-loop-holds Inv-loop μ-loop
 unfolding allTo
 loop-holds c = (omega arith, refl)
 
-loop-again : tie.Need-loop-again Inv-loop μ-loop
-loop-again c = (omega arith, more-clear (c .before .before .before .before .before .args .w .now) (c .before .before .before .before .before .args .u) _ _ _ (c .before .before .before .loop .inv .1) (c .still-clear .ensures))
-
 returns : tie.Need-returns Inv-loop μ-loop
 unfolding rowClear
 returns c = let e : c .before .loop .i ≡ 128 = omega arith in rw e at (c .before .loop .inv .1)
@@ -31,14 +28,9 @@ pub row-clear-spec : {M : Type 1} → statement M
 row-clear-spec =
     tie.close
     (tie.spec
-    Inv-loop
-    μ-loop
+    Inv-loop μ-loop (λ c. search needs) loop-holds (λ c. search needs) (λ c. search needs) (λ c κs. search needs) (λ c. search needs)
     (λ c. search needs)
-    loop-holds
-    (λ c. search needs)
-    (λ c. search needs)
-    (λ c κs. search needs)
-    (λ c. search needs)
-    (λ c. search needs)
-    loop-again
+    (λ c.
+    let h = c .before .before .before in let s = h .before .before in
+    (omega arith, more-clear (s .args .w .now) (s .args .u) _ _ _ (h .loop .inv .1) (c .still-clear .ensures)))
     returns)

@@ -5,9 +5,8 @@ use borrow.Author.Needs.{needs}
 use Rattle.bits.proofs.test_bit.Statement.{statement}
 use Rattle.bits.proofs.test_bit.Tie as tie
 
-returns : tie.Need-returns
-returns c = unfold bitAt in rw (and-one _)
-
 pub test-bit-spec : {M : Type 1} → statement M
 test-bit-spec =
-    tie.close (tie.spec (λ c. search needs) (λ c. search needs) (λ c. search needs) (λ c. search needs) (λ c. search needs) returns)
+    tie.close
+    (tie.spec
+    (λ c. search needs) (λ c. search needs) (λ c. search needs) (λ c. search needs) (λ c. search needs) (λ c. unfold bitAt in rw (and-one _)))

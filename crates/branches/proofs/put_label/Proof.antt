@@ -8,29 +8,14 @@ use borrow.Author.Needs.{needs}
 use Rattle.branches.proofs.put_label.Statement.{statement}
 use Rattle.branches.proofs.put_label.Tie as tie
 
-returns : tie.Need-returns
-returns c = written-is (sym (label-none _ _ _ _ (c .if1 .taken))) (written-nil _ _)
-
-put-sign-requires : tie.Need-put-sign-requires
-put-sign-requires c κs =
-    let s = c .before .before .before .before .before in
-    let e = label-some (s .args .code .now) (s .args .u) (s .args .from) (s .args .at) _ refl (c .before .if1 .left) in
-    omega (arith, ap length e, s .pre .2)
-
-returns-2 : tie.Need-returns-2
-returns-2 c =
-    let if1 = c .before .before .before .before .if1 in
-    let put-sign = c .before .before .put-sign in
-    written-is (sym (label-some _ _ _ _ _ refl (if1 .left))) (put-sign .ensures)
-
 pub put-label-spec : {M : Type 1} → statement M
 put-label-spec =
     tie.close
     (tie.spec
+    (λ c. search needs) (λ c. search needs) (λ c. written-is (sym (label-none _ _ _ _ (c .if1 .taken))) (written-nil _ _)) (λ c. search needs)
+    (λ c κs.
+    let s = c .before .before .before .before .before in
+    let e = label-some (s .args .code .now) (s .args .u) (s .args .from) (s .args .at) _ refl (c .before .if1 .left) in
+    omega (arith, ap length e, s .pre .2))
     (λ c. search needs)
-    (λ c. search needs)
-    returns
-    (λ c. search needs)
-    put-sign-requires
-    (λ c. search needs)
-    returns-2)
+    (λ c. let p = c .before .before in written-is (sym (label-some _ _ _ _ _ refl (p .before .before .if1 .left))) (p .put-sign .ensures)))

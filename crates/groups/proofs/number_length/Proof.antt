@@ -15,21 +15,10 @@ Inv-loop x rest₀ bytes₀ rest bytes = (bytes + length (num rest) ≡ suc (len
 abbrev μ-loop : tie.MeasureT-loop
 μ-loop x rest₀ bytes₀ rest bytes = rest
 
-loop-holds : tie.Need-loop-holds Inv-loop μ-loop
-loop-holds c = (omega arith, omega arith)
-
-add-bytes : tie.Need-add-bytes Inv-loop μ-loop
-add-bytes c = omega arith
-
-loop-less : tie.Need-loop-less Inv-loop μ-loop
-loop-less c = omega arith
-
-loop-again : tie.Need-loop-again Inv-loop μ-loop
-loop-again c = (omega (arith, ap length (num-more _ (c .loop-test .taken))), omega arith)
-
-returns : tie.Need-returns Inv-loop μ-loop
-returns c = omega (arith, ap length (num-one _ (c .loop-test .left)))
-
 pub number-length-spec : {M : Type 1} → statement M
 number-length-spec =
-    tie.close (tie.spec Inv-loop μ-loop loop-holds add-bytes loop-less loop-again returns)
+    tie.close
+    (tie.spec
+    Inv-loop μ-loop (λ c. (omega arith, omega arith)) (λ c. omega arith) (λ c. omega arith)
+    (λ c. (omega (arith, ap length (num-more _ (c .loop-test .taken))), omega arith))
+    (λ c. omega (arith, ap length (num-one _ (c .loop-test .left)))))

@@ -5,8 +5,5 @@ use borrow.Author.Needs.{needs}
 use Rattle.groups.proofs.put_byte.Statement.{statement}
 use Rattle.groups.proofs.put_byte.Tie as tie
 
-returns : tie.Need-returns
-returns c = (refl, sym (put-one _ _ _))
-
 pub put-byte-spec : {M : Type 1} → statement M
-put-byte-spec = tie.close (tie.spec (λ c. search needs) (λ c. search needs) (λ c. search needs) returns)
+put-byte-spec = tie.close (tie.spec (λ c. search needs) (λ c. search needs) (λ c. search needs) (λ c. (refl, sym (put-one _ _ _))))

@@ -20,59 +20,24 @@ Inv-loop out₀ at x rest₀ place₀ out rest place =
 abbrev μ-loop : tie.MeasureT-loop
 μ-loop out₀ at x rest₀ place₀ out rest place = rest
 
-loop-holds : tie.Need-loop-holds Inv-loop μ-loop
-loop-holds c = (refl, refl, refl)
-
-add-put-byte : tie.Need-add-put-byte Inv-loop μ-loop
-add-put-byte c = omega arith
-
-cast-put-byte : tie.Need-cast-put-byte Inv-loop μ-loop
-cast-put-byte c = omega arith
-
-put-byte-requires : tie.Need-put-byte-requires Inv-loop μ-loop
-put-byte-requires c κs = omega (arith, ap length (num-more _ (c .before .loop-test .taken)))
-
-loop-less : tie.Need-loop-less Inv-loop μ-loop
-loop-less c = omega arith
-
-loop-again : tie.Need-loop-again Inv-loop μ-loop
-loop-again c =
-    let l = c .before .before .before .before .before .loop in
-    let m = num-more (l .rest) (c .before .before .before .before .loop-test .taken) in
-    let p = c .before .before .put-byte in (
-      put-then (l .out) (p .last .0) (l .place) (p .result) ((128 + l .rest % 128) ∷ []) (num (l .rest / 128)) (p .ensures .1) (p .ensures .0)
-          ∙ ap (put (l .out) (l .place)) (sym m)
-          ∙ l .inv .0,
-      omega (arith, ap length m),
-      omega arith,
-    )
-
-cast-put-byte-2 : tie.Need-cast-put-byte-2 Inv-loop μ-loop
-cast-put-byte-2 c = omega arith
-
-put-byte-requires-2 : tie.Need-put-byte-requires-2 Inv-loop μ-loop
-put-byte-requires-2 c κs = omega (arith, ap length (num-one _ (c .before .loop-test .left)))
-
-returns : tie.Need-returns Inv-loop μ-loop
-returns c =
-    let l = c .before .before .before .before .before .loop in
-    let m = num-one (l .rest) (c .before .before .before .before .loop-test .left) in
-    let p = c .before .before .put-byte2 in
-    (omega (arith, ap length m), p .ensures .1 ∙ ap (put (l .out) (l .place)) (sym m) ∙ l .inv .0)
-
 pub put-number-spec : {M : Type 1} → statement M
 put-number-spec =
     tie.close
     (tie.spec
-    Inv-loop
-    μ-loop
-    loop-holds
-    add-put-byte
-    cast-put-byte
-    put-byte-requires
-    loop-less
-    loop-again
-    cast-put-byte-2
-    put-byte-requires-2
-    (λ c. search needs)
-    returns)
+    Inv-loop μ-loop (λ c. (refl, refl, refl)) (λ c. omega arith) (λ c. omega arith)
+    (λ c κs. omega (arith, ap length (num-more _ (c .before .loop-test .taken)))) (λ c. omega arith)
+    (λ c.
+    let p1 = c .before .before in let t = p1 .before .before in let h = t .before in
+    let m = num-more (h .loop .rest) (t .loop-test .taken) in
+    let p = p1 .put-byte in (
+      put-then (h .loop .out) (p .last .0) (h .loop .place) (p .result) ((128 + h .loop .rest % 128) ∷ []) (num (h .loop .rest / 128))
+          (p .ensures .1) (p .ensures .0) ∙ ap (put (h .loop .out) (h .loop .place)) (sym m) ∙ h .loop .inv .0,
+      omega (arith, ap length m),
+      omega arith,
+    ))
+    (λ c. omega arith) (λ c κs. omega (arith, ap length (num-one _ (c .before .loop-test .left)))) (λ c. search needs)
+    (λ c.
+    let p1 = c .before .before in let t = p1 .before .before in let h = t .before in
+    let m = num-one (h .loop .rest) (t .loop-test .left) in
+    let p = p1 .put-byte2 in
+    (omega (arith, ap length m), p .ensures .1 ∙ ap (put (h .loop .out) (h .loop .place)) (sym m) ∙ h .loop .inv .0)))

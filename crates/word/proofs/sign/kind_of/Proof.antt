@@ -36,7 +36,8 @@ returns-5 c = rw (c .match .keys2)
 -- 5 and 6
 returns-6 : tie.Need-returns-6
 unfolding kindOf signOf isStep
-returns-6 c = kind-of-two 5 6 _ refl refl (one-of-two 5 _ (omega (arith, none-of-two (c .before .before .before .match .rest .0 .1) .0)) (c .if3 .taken))
+returns-6 c =
+    kind-of-two 5 6 _ refl refl (one-of-two 5 _ (omega (arith, none-of-two (c .before .before .before .match .rest .0 .1) .0)) (c .if3 .taken))
 
 pub kind-of-spec : {M : Type 1} → statement M
 kind-of-spec = tie.close (tie.spec returns returns-2 returns-3 returns-4 returns-5 returns-6)

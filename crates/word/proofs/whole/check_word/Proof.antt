@@ -13,15 +13,18 @@ returns c = checking-long _ (c .if1 .taken)
 
 -- accepted
 returns-2 : tie.Need-returns-2
-returns-2 c = checking-one _ _ (c .before .before .before .before .before .before .if1 .left) (c .before .before .before .before .before .check-signs .ensures) (c .before .before .before .counts .given .1) (c .if2 .taken)
+returns-2 c =
+    checking-one _ _ (c .before .before .before .before .before .before .if1 .left) (c .before .before .before .before .before .check-signs .ensures) (c .before .before .before .counts .given .1) (c .if2 .taken)
 
 -- refusal 6
 returns-3 : tie.Need-returns-3
-returns-3 c = checking-other _ _ (c .before .before .before .before .before .before .if1 .left) (c .before .before .before .before .before .check-signs .ensures) (c .before .before .before .counts .given .1) (c .if2 .left)
+returns-3 c =
+    checking-other _ _ (c .before .before .before .before .before .before .if1 .left) (c .before .before .before .before .before .check-signs .ensures) (c .before .before .before .counts .given .1) (c .if2 .left)
 
 -- refusals 2 to 5
 returns-4 : tie.Need-returns-4
-returns-4 c = checking-stop _ _ (c .before .before .before .before .if1 .left) (c .before .before .before .check-signs .ensures) (c .before .number .given .1)
+returns-4 c =
+    checking-stop _ _ (c .before .before .before .before .if1 .left) (c .before .before .before .check-signs .ensures) (c .before .number .given .1)
 
 pub check-word-spec : {M : Type 1} → statement M
 check-word-spec =

@@ -20,7 +20,8 @@ returns-2 c st e = step-refused _ st _ e (sym (c .before .before .before .kind-o
 
 -- a step: refusal 5
 returns-3 : tie.Need-returns-3
-returns-3 c st e = step-256th _ st _ e (sym (c .before .before .before .before .kind-of .ensures) ∙ c .before .before .enum-told2 .given .1) (omega arith) (omega arith)
+returns-3 c st e =
+    step-256th _ st _ e (sym (c .before .before .before .before .kind-of .ensures) ∙ c .before .before .enum-told2 .given .1) (omega arith) (omega arith)
 
 -- an operator on one operand: refusal 3
 returns-4 : tie.Need-returns-4
@@ -32,11 +33,13 @@ returns-5 c st e = binary-refused _ st _ e (sym (c .before .before .before .kind
 
 -- an operand that is taken
 returns-6 : tie.Need-returns-6
-returns-6 c st e = rw (c .count .ensures) (operand-taken _ st _ e (sym (c .before .before .before .before .kind-of .ensures) ∙ c .before .before .enum-told .given .1) (omega arith))
+returns-6 c st e =
+    rw (c .count .ensures) (operand-taken _ st _ e (sym (c .before .before .before .before .kind-of .ensures) ∙ c .before .before .enum-told .given .1) (omega arith))
 
 -- a step that is taken
 returns-7 : tie.Need-returns-7
-returns-7 c st e = rw (c .count2 .ensures) (step-taken _ st _ e (sym (c .before .before .before .before .before .kind-of .ensures) ∙ c .before .before .before .enum-told2 .given .1) (omega arith) (omega arith))
+returns-7 c st e =
+    rw (c .count2 .ensures) (step-taken _ st _ e (sym (c .before .before .before .before .before .kind-of .ensures) ∙ c .before .before .before .enum-told2 .given .1) (omega arith) (omega arith))
 
 -- an operator on one operand that is taken
 returns-8 : tie.Need-returns-8
@@ -44,7 +47,8 @@ returns-8 c st e = unary-taken _ st _ e (sym (c .before .before .before .kind-of
 
 -- an operator on two operands that is taken
 returns-9 : tie.Need-returns-9
-returns-9 c st e = rw (c .count3 .ensures) (binary-taken _ st _ e (sym (c .before .before .before .before .kind-of .ensures) ∙ c .before .before .enum-told4 .given .1) (omega arith))
+returns-9 c st e =
+    rw (c .count3 .ensures) (binary-taken _ st _ e (sym (c .before .before .before .before .kind-of .ensures) ∙ c .before .before .enum-told4 .given .1) (omega arith))
 
 pub take-sign-spec : {M : Type 1} → statement M
 take-sign-spec =
