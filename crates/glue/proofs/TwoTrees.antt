@@ -1,6 +1,7 @@
--- Composition and intersection of two tree queries that lie side by side: what the code hands to its gluing, and what comes out.
+-- Composition and intersection of two tree queries that lie one behind the other: what the code hands to its gluing, and what comes out.
 use mathlib.Core.Path.{_≡_, refl, sym, ap, subst, _∙_}
 use mathlib.Core.Logic.{_≢_}
+use mathlib.Core.Bool.{Bool, true, false, cond}
 use mathlib.Core.Option.{Option, none, some}
 use mathlib.Core.List.{List}
 use Prim.Native.Nat.{ℕ, zero, suc, _+_, _≤_, _<_}
@@ -8,144 +9,203 @@ use native.Mathlib.Decide.{ℕ-discrete}
 use native.Mathlib.Omega.{arith}
 use lib.ListN.{length, drop}
 use Rattle.meaning.specs.TreeQuery.{Table, Query, Live, Tree, TreeQuery}
-use Rattle.meaning.specs.Gluing.{Glued, glue, join, across, depth, within, placed, composed, thenWithin, intersected}
+use Rattle.meaning.specs.Gluing.{Glued, glue, join, across, depth, placed, thenWithin, two}
 use Rattle.theory.proofs.Look.{never, pick-yes, pick-no}
 use Rattle.theory.proofs.Join.{length-join}
 use Rattle.theory.proofs.Apart.{Safe, AcrossO, safe-join, across-glued, safe-within}
-use Rattle.glue.specs.declared.gluing.Joined.{Joined}
-use Rattle.rows.specs.Table.{table, ifRows, query}
-use Rattle.glue.specs.Rows.{Marked, marked, joinedOf, queryFrom, builtOf}
+use Rattle.theory.proofs.Plain.{TreeO}
+use Rattle.rows.specs.Table.{table, ifRows}
 use Rattle.rows.proofs.Table.{length-table, live-below, below-live, rows-none, rows-some}
+use Rattle.glue.specs.declared.levels.Joined.{Joined}
+use Rattle.glue.specs.declared.trees.Built.{Built}
+use Rattle.glue.specs.Levels.{Marked, marked, joinedOf}
+use Rattle.glue.specs.Trees.{queryFrom, builtOf, builtFrom, chosen, InTree, withinOf}
 
 -- ------------------------------------------------------------------ two marks of three
-abbrev twoMarks : Option Marked → Option Query
-twoMarks none = none
-twoMarks (some m) = some (record { rows = m .rows; s = m .s; d = m .d })
+-- the rows with the marks that `choose` takes of the three
+module _ (choose : Marked → ℕ) where
+  abbrev twoMarks : Option Marked → Option Query
+  twoMarks none = none
+  twoMarks (some m) = some (record { rows = m .rows; s = m .s; d = choose m })
 
-two-marked : (o : Option Glued) (s d e : ℕ) → twoMarks (marked o s d e) ≡ placed o s d
-two-marked none s d e = refl
-two-marked (some g) s d e = refl
+  two-rows : (n : ℕ) (m : Marked) → ifRows n (record { rows = m .rows; s = m .s; d = choose m }) ≡ twoMarks (ifRows n m)
+  two-rows zero m = refl
+  two-rows (suc n) m = refl
 
-two-rows : (n : ℕ) (m : Marked) → twoMarks (ifRows n m) ≡ ifRows n (record { rows = m .rows; s = m .s; d = m .d })
-two-rows zero m = refl
-two-rows (suc n) m = refl
+placed-d : (o : Option Glued) (s d e : ℕ) → twoMarks (λ m. m .d) (marked o s d e) ≡ placed o s d
+placed-d none s d e = refl
+placed-d (some g) s d e = refl
 
--- a gluing without its third mark
-placed-end : (r : Joined) (P L : List ℕ) (o : Option Glued) (s d e : ℕ) → joinedOf r P L ≡ marked o s d e
-    → builtOf (record { rows = r .rows; s = r .s; d = r .d }) P L ≡ placed o s d
-placed-end r P L o s d e q =
-    sym (two-rows (r .rows) (record { rows = table (r .rows) P L; s = r .s; d = r .d; d2 = r .d2 })) ∙ ap twoMarks q ∙ two-marked o s d e
+placed-d2 : (o : Option Glued) (s d e : ℕ) → twoMarks (λ m. m .d2) (marked o s d e) ≡ placed o s e
+placed-d2 none s d e = refl
+placed-d2 (some g) s d e = refl
 
--- ------------------------------------------------------------------ two tables in one
-module _ (na nb : ℕ) (P L : List ℕ) (s1 d1 s2 d2 : ℕ) (vp : TreeQuery (query na P L s1 d1)) (vq : TreeQuery (queryFrom na nb P L s2 d2))
-    (P′ : List ℕ) (et : table (na + nb) P′ L ≡ join (table na P L) (table nb (drop na P) (drop na L))) where
+within-marked : (o : Option Glued) (s d e : ℕ) → withinOf (marked o s d e) ≡ thenWithin o s d e
+within-marked none s d e = refl
+within-marked (some g) s d e = refl
+
+abbrev nodesOf : Option Marked → ℕ
+nodesOf none = 0
+nodesOf (some m) = length (m .rows)
+
+joined-nodes : (t : Joined) (P L : List ℕ) → nodesOf (joinedOf t P L) ≡ t .rows
+joined-nodes t P L = go (t .rows)
+  where
+    go : (n : ℕ) → nodesOf (ifRows n (record { rows = table n P L; s = t .s; d = t .d; d2 = t .d2 })) ≡ n
+    go zero = refl
+    go (suc n) = length-table (suc n) P L
+
+-- ------------------------------------------------------------------ between two trees
+module _ (p q : Built) (P L : List ℕ) (vp : TreeQuery (queryFrom 0 p P L)) (vq : TreeQuery (queryFrom (p .rows) q P L)) where
   abbrev A : Table
-  A = table na P L
+  A = table (p .rows) P L
 
   abbrev B : Table
-  B = table nb (drop na P) (drop na L)
+  B = table (q .rows) (drop (p .rows) P) (drop (p .rows) L)
 
-  lA : length A ≡ na
-  lA = length-table na P L
+  lA : length A ≡ p .rows
+  lA = length-table (p .rows) P L
 
-  lJ : length (join A B) ≡ na + nb
-  lJ = omega (arith, length-join A B, lA, length-table nb (drop na P) (drop na L))
+  lB : length B ≡ q .rows
+  lB = length-table (q .rows) (drop (p .rows) P) (drop (p .rows) L)
 
-  pub safe-two : (a b : ℕ) → Live A a → Live B b → Safe na (table (na + nb) P′ L) a (na + b)
-  safe-two a b la lb =
-      subst (λ z. Safe na z a (na + b)) (sym et) (subst (λ z. Safe z (join A B) a (z + b)) lA (safe-join (vp .tree) (vq .tree) a b la lb))
+  meeting-live : (both : Bool) → Live A (cond both (p .s) (p .d))
+  meeting-live true = vp .sLive
+  meeting-live false = vp .dLive
 
-  across-is : (a b : ℕ) → glue (na + nb) (table (na + nb) P′ L) a (na + b) ≡ across A a B b
-  across-is a b =
-      ap (λ z. glue (na + nb) z a (na + b)) et
-      ∙ ap (λ z. glue z (join A B) a (na + b)) (sym lJ)
-      ∙ ap (λ z. glue (length (join A B)) (join A B) a (z + b)) (sym lA)
+  -- what the two become by their first gluing
+  abbrev Met : Bool → Option Glued
+  Met both = across A (cond both (p .s) (p .d)) B (q .s)
 
-  pub compose-end : (r : Joined) (P″ L″ : List ℕ) (e : ℕ) → joinedOf r P″ L″ ≡ marked (glue (na + nb) (table (na + nb) P′ L) d1 (na + s2)) s1 (na + d2) e
-      → builtOf (record { rows = r .rows; s = r .s; d = r .d }) P″ L″ ≡ composed (query na P L s1 d1) (queryFrom na nb P L s2 d2)
-  compose-end r P″ L″ e q =
-      placed-end r P″ L″ (glue (na + nb) (table (na + nb) P′ L) d1 (na + s2)) s1 (na + d2) e q
-      ∙ ap (λ o. placed o s1 (na + d2)) (across-is d1 s2)
-      ∙ ap (λ z. placed (across A d1 B s2) s1 (z + d2)) (sym lA)
+  module _ (P′ : List ℕ) (et : table (p .rows + q .rows) P′ L ≡ join A B) (both : Bool) (x : ℕ) (ex : x ≡ cond both (p .s) (p .d)) where
+    pub across-safe : Safe (p .rows) (table (p .rows + q .rows) P′ L) x (p .rows + q .s)
+    across-safe = rw (et, ex) (subst (λ z. Safe z (join A B) (cond both (p .s) (p .d)) (z + q .s)) lA
+        (safe-join (vp .tree) (vq .tree) (cond both (p .s) (p .d)) (q .s) (meeting-live both) (vq .sLive)))
 
-  -- after the first of the two gluings
-  pub record Mid (r : Joined) (P″ L″ : List ℕ) : Type 0 where
-    pub tree : Tree (table (r .rows) P″ L″)
-    pub xn : r .d < r .rows
-    pub yn : r .d2 < r .rows
-    pub fewer : r .rows ≤ na + nb
-    pub whole : placed (within (table (r .rows) P″ L″) (r .d) (r .d2)) (r .s) (r .d) ≡ intersected (query na P L s1 d1) (queryFrom na nb P L s2 d2)
+    pub across-end : (r : Joined) (P″ L″ : List ℕ)
+        → joinedOf r P″ L″ ≡ marked (glue (p .rows + q .rows) (table (p .rows + q .rows) P′ L) x (p .rows + q .s)) (p .s) (p .d) (p .rows + q .d)
+        → joinedOf r P″ L″ ≡ marked (Met both) (p .s) (p .d) (length A + q .d)
+    across-end r P″ L″ e =
+        let z : p .rows + q .rows ≡ length (join A B) = omega (arith, length-join A B, lA, lB) in
+        e ∙ rw (et, z, ex) refl ∙ ap (λ n. marked (glue (length (join A B)) (join A B) (cond both (p .s) (p .d)) (n + q .s)) (p .s) (p .d) (n + q .d)) (sym lA)
 
-  module _ (r : Joined) (P″ L″ : List ℕ) (q : joinedOf r P″ L″ ≡ marked (glue (na + nb) (table (na + nb) P′ L) s1 (na + s2)) s1 d1 (na + d2)) where
-    abbrev m : Marked
-    m = record { rows = table (r .rows) P″ L″; s = r .s; d = r .d; d2 = r .d2 }
+  -- after the first gluing
+  module _ (both : Bool) (t : Joined) (P′ L′ : List ℕ) (e : joinedOf t P′ L′ ≡ marked (Met both) (p .s) (p .d) (length A + q .d)) where
+    glued : AcrossO A B (cond both (p .s) (p .d)) (q .s) (Met both)
+    glued = across-glued (vp .tree) (vq .tree) (cond both (p .s) (p .d)) (q .s) (meeting-live both) (vq .sLive)
 
-    joined : ifRows (r .rows) m ≡ marked (across A s1 B s2) s1 d1 (length A + d2)
-    joined = q ∙ ap (λ o. marked o s1 d1 (na + d2)) (across-is s1 s2) ∙ ap (λ z. marked (across A s1 B s2) s1 d1 (z + d2)) (sym lA)
-
-    pub intersect-empty : r .rows ≡ 0 → none ≡ intersected (query na P L s1 d1) (queryFrom na nb P L s2 d2)
-    intersect-empty e = go (across A s1 B s2) (sym (rows-none (r .rows) m e) ∙ joined)
+    pub across-few : t .rows ≤ p .rows + q .rows
+    across-few = let z = ap nodesOf e in omega (arith, joined-nodes t P′ L′, go (Met both) glued, lA, lB)
       where
-        go : (o : Option Glued) → none ≡ marked o s1 d1 (length A + d2) → none ≡ thenWithin o s1 d1 (length A + d2)
-        go none w = refl
-        go (some g) w = never cc
+        go : (o : Option Glued) → AcrossO A B (cond both (p .s) (p .d)) (q .s) o → nodesOf (marked o (p .s) (p .d) (length A + q .d)) ≤ length A + length B
+        go none a = omega arith
+        go (some g) a = omega (arith, a .short)
 
-    pub intersect-mid : r .rows ≢ 0 → Mid r P″ L″
-    intersect-mid ne = go (across A s1 B s2) refl (across-glued (vp .tree) (vq .tree) s1 s2 (vp .sLive) (vq .sLive)) (sym (rows-some (r .rows) m ne) ∙ joined)
+    pub across-tree : InTree (joinedOf t P′ L′)
+    across-tree = rw e (go (Met both) glued)
       where
-        go : (o : Option Glued) → across A s1 B s2 ≡ o → AcrossO A B s1 s2 o → some m ≡ marked o s1 d1 (length A + d2) → Mid r P″ L″
-        go none eo a w = never cc
-        go (some g) eo a w = record {
-          tree = subst Tree (sym eT) (a .tree);
-          xn = live-below (r .rows) P″ L″ (r .d) (rw (eT, ed) (a .liveA d1 (vp .dLive)));
-          yn = live-below (r .rows) P″ L″ (r .d2) (rw (eT, ed2) (a .liveB d2 (vq .dLive)));
-          fewer = omega (arith, a .short, ap length eT, length-table (r .rows) P″ L″, length-table nb (drop na P) (drop na L), lA);
-          whole = rw (eT, es, ed, ed2) (ap (λ o. thenWithin o s1 d1 (length A + d2)) (sym eo));
-        }
-          where
-            same : m ≡ record { rows = g .rows; s = g .to s1; d = g .to d1; d2 = g .to (length A + d2) }
-            same = cc
+        go : (o : Option Glued) → AcrossO A B (cond both (p .s) (p .d)) (q .s) o → InTree (marked o (p .s) (p .d) (length A + q .d))
+        go none a = tt
+        go (some g) a = (a .tree, a .liveA (p .d) (vp .dLive), a .liveB (q .d) (vq .dLive))
 
-            eT : table (r .rows) P″ L″ ≡ g .rows
-            eT = ap (λ z. z .rows) same
+-- ------------------------------------------------------------------ two operands
+module _ (both : Bool) (p q : Built) (P L : List ℕ) where
+  abbrev Two : Option Query
+  Two = two (chosen both) (builtOf p P L) (builtFrom (p .rows) q P L)
 
-            es : r .s ≡ g .to s1
-            es = ap (λ z. z .s) same
+  -- "Empty in any operand gives empty."
+  pub two-first : p .rows ≡ 0 → builtOf p P L ≡ Two
+  two-first z = rw (rows-none (p .rows) (queryFrom 0 p P L) z) refl
 
-            ed : r .d ≡ g .to d1
-            ed = ap (λ z. z .d) same
+  pub two-second : (P′ L′ : List ℕ) → q .rows ≡ 0 → builtOf q P′ L′ ≡ Two
+  two-second P′ L′ z = rows-none (q .rows) (queryFrom 0 q P′ L′) z ∙ go (builtOf p P L) ∙ ap (two (chosen both) (builtOf p P L)) (sym (rows-none (q .rows) (queryFrom (p .rows) q P L) z))
+    where
+      go : (o : Option Query) → none ≡ two (chosen both) o none
+      go none = refl
+      go (some Q) = refl
 
-            ed2 : r .d2 ≡ g .to (length A + d2)
-            ed2 = ap (λ z. z .d2) same
+  module _ (np : p .rows ≢ 0) (nq : q .rows ≢ 0) where
+    first-is : builtOf p P L ≡ some (queryFrom 0 p P L)
+    first-is = rows-some (p .rows) (queryFrom 0 p P L) np
+
+    second-is : builtFrom (p .rows) q P L ≡ some (queryFrom (p .rows) q P L)
+    second-is = rows-some (q .rows) (queryFrom (p .rows) q P L) nq
+
+    pub two-trees : TreeO (builtOf p P L) × TreeO (builtFrom (p .rows) q P L) → TreeQuery (queryFrom 0 p P L) × TreeQuery (queryFrom (p .rows) q P L)
+    two-trees (vp, vq) = (subst TreeO first-is vp, subst TreeO second-is vq)
+
+    two-chosen : chosen both (queryFrom 0 p P L) (queryFrom (p .rows) q P L) ≡ Two
+    two-chosen = rw (first-is, second-is) refl
+
+module _ (p q : Built) (P L : List ℕ) (np : p .rows ≢ 0) (nq : q .rows ≢ 0) where
+  abbrev A₁ : Table
+  A₁ = table (p .rows) P L
+
+  abbrev B₁ : Table
+  B₁ = table (q .rows) (drop (p .rows) P) (drop (p .rows) L)
+
+  abbrev First : Bool → Option Marked
+  First both = marked (across A₁ (cond both (p .s) (p .d)) B₁ (q .s)) (p .s) (p .d) (length A₁ + q .d)
+
+  pub composed-end : (both : Bool) → both ≡ false → (t : Joined) (P′ L′ : List ℕ) → joinedOf t P′ L′ ≡ First both
+      → builtOf (record { rows = t .rows; s = t .s; d = t .d2 }) P′ L′ ≡ Two both p q P L
+  composed-end true z t P′ L′ e = never cc
+  composed-end false z t P′ L′ e =
+      two-rows (λ m. m .d2) (t .rows) (record { rows = table (t .rows) P′ L′; s = t .s; d = t .d; d2 = t .d2 })
+      ∙ ap (twoMarks (λ m. m .d2)) e
+      ∙ placed-d2 (across A₁ (p .d) B₁ (q .s)) (p .s) (p .d) (length A₁ + q .d)
+      ∙ two-chosen false p q P L np nq
+
+  pub intersected-end : (both : Bool) → both ≡ true → (t : Joined) (P′ L′ : List ℕ) → joinedOf t P′ L′ ≡ First both → withinOf (joinedOf t P′ L′) ≡ Two both p q P L
+  intersected-end false z t P′ L′ e = never cc
+  intersected-end true z t P′ L′ e =
+      ap withinOf e ∙ within-marked (across A₁ (p .s) B₁ (q .s)) (p .s) (p .d) (length A₁ + q .d) ∙ two-chosen true p q P L np nq
 
 -- ------------------------------------------------------------------ inside one tree
-module _ (n : ℕ) (P L : List ℕ) (tree : Tree (table n P L)) (x y : ℕ) (lx : x < n) (ly : y < n) (a b : ℕ) (ea : a ≡ depth n (table n P L) x)
-    (eb : b ≡ depth n (table n P L) y) where
+module _ (t : Joined) (P L : List ℕ) where
   abbrev T : Table
-  T = table n P L
+  T = table (t .rows) P L
 
-  abbrev same? : Dec (depth (length T) T x ≡ depth (length T) T y)
-  same? = ℕ-discrete (depth (length T) T x) (depth (length T) T y)
+  abbrev Here : Marked
+  Here = record { rows = T; s = t .s; d = t .d; d2 = t .d2 }
 
-  lT : length T ≡ n
-  lT = length-table n P L
+  pub within-empty : t .rows ≡ 0 → none ≡ withinOf (joinedOf t P L)
+  within-empty z = ap withinOf (sym (rows-none (t .rows) Here z))
 
-  depth-x : a ≡ depth (length T) T x
-  depth-x = ea ∙ ap (λ z. depth z T x) (sym lT)
+  module _ (ne : t .rows ≢ 0) (h : InTree (joinedOf t P L)) where
+    here : joinedOf t P L ≡ some Here
+    here = rows-some (t .rows) Here ne
 
-  depth-y : b ≡ depth (length T) T y
-  depth-y = eb ∙ ap (λ z. depth z T y) (sym lT)
+    pub in-tree : Tree T × (t .d < t .rows) × (t .d2 < t .rows)
+    in-tree = let (tree, x, y) = subst InTree here h in (tree, live-below (t .rows) P L (t .d) x, live-below (t .rows) P L (t .d2) y)
 
-  pub within-safe : a ≡ b → Safe 0 (table n P L) x y
-  within-safe e = safe-within tree x y (below-live n P L x lx) (below-live n P L y ly) (sym depth-x ∙ e ∙ depth-y)
+    module _ (a b : ℕ) (ea : a ≡ depth (t .rows) T (t .d)) (eb : b ≡ depth (t .rows) T (t .d2)) where
+      abbrev same? : Dec (depth (length T) T (t .d) ≡ depth (length T) T (t .d2))
+      same? = ℕ-discrete (depth (length T) T (t .d)) (depth (length T) T (t .d2))
 
-  -- "inside one tree when the two lie at different depths"
-  pub within-none : (s d : ℕ) → a ≢ b → none ≡ placed (within (table n P L) x y) s d
-  within-none s d ne = ap (λ o. placed o s d) (sym (pick-no same? (glue (length T) T x y) none (λ e. ne (depth-x ∙ e ∙ sym depth-y))))
+      lT : length T ≡ t .rows
+      lT = length-table (t .rows) P L
 
-  pub within-end : a ≡ b → (r : Joined) (P″ L″ : List ℕ) (s d e : ℕ) → joinedOf r P″ L″ ≡ marked (glue n (table n P L) x y) s d e
-      → builtOf (record { rows = r .rows; s = r .s; d = r .d }) P″ L″ ≡ placed (within (table n P L) x y) s d
-  within-end q r P″ L″ s d e w =
-      placed-end r P″ L″ (glue n T x y) s d e w
-      ∙ ap (λ z. placed (glue z T x y) s d) (sym lT)
-      ∙ ap (λ o. placed o s d) (sym (pick-yes same? (glue (length T) T x y) none (sym depth-x ∙ q ∙ depth-y)))
+      depth-x : a ≡ depth (length T) T (t .d)
+      depth-x = ea ∙ ap (λ z. depth z T (t .d)) (sym lT)
+
+      depth-y : b ≡ depth (length T) T (t .d2)
+      depth-y = eb ∙ ap (λ z. depth z T (t .d2)) (sym lT)
+
+      pub within-safe : a ≡ b → Safe 0 T (t .d) (t .d2)
+      within-safe e =
+          let (tree, x, y) = in-tree in
+          safe-within tree (t .d) (t .d2) (below-live (t .rows) P L (t .d) x) (below-live (t .rows) P L (t .d2) y) (sym depth-x ∙ e ∙ depth-y)
+
+      -- "inside one tree when the two lie at different depths"
+      pub within-none : a ≢ b → none ≡ withinOf (joinedOf t P L)
+      within-none ne = sym (ap withinOf here ∙ ap (λ o. placed o (t .s) (t .d)) (pick-no same? (glue (length T) T (t .d) (t .d2)) none (λ e. ne (depth-x ∙ e ∙ sym depth-y))))
+
+      pub within-end : a ≡ b → (r : Joined) (P′ L′ : List ℕ) → joinedOf r P′ L′ ≡ marked (glue (t .rows) T (t .d) (t .d2)) (t .s) (t .d) (t .d2)
+          → builtOf (record { rows = r .rows; s = r .s; d = r .d }) P′ L′ ≡ withinOf (joinedOf t P L)
+      within-end e r P′ L′ w =
+          two-rows (λ m. m .d) (r .rows) (record { rows = table (r .rows) P′ L′; s = r .s; d = r .d; d2 = r .d2 })
+          ∙ ap (twoMarks (λ m. m .d)) w
+          ∙ placed-d (glue (t .rows) T (t .d) (t .d2)) (t .s) (t .d) (t .d2)
+          ∙ ap (λ z. placed (glue z T (t .d) (t .d2)) (t .s) (t .d)) (sym lT)
+          ∙ sym (ap withinOf here ∙ ap (λ o. placed o (t .s) (t .d)) (pick-yes same? (glue (length T) T (t .d) (t .d2)) none (sym depth-x ∙ e ∙ depth-y)))

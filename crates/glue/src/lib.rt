@@ -1,8 +1,5 @@
-// The plain tree query of an accepted word, built sign by sign in one pool of rows that the caller lends.
-// A row is a parent and a label code, in two slices. The rows of the pending operands lie one behind the other, and each operand's links count from
-// its own first row, so that the rows of an operand are the table of the definition literally. An operand without rows is empty.
-// A row that is glued away is taken out at once, so that rows are used again: 255 steps and 256 pending operands never need more than 511.
+// Two tree queries glued to one, in the rows of two slices that the caller lends: a row is a parent and a label code.
+// A row that is glued away is taken out at once, so that the rows left are the table of the definition literally. No rows: empty.
 mod merging; // merging.rt: one row stands for two
-mod gluing; // gluing.rt: level by level, between two trees and inside one
-mod pool; // pool.rt: the pending operands
-pub mod build; // build.rt: one sign, and the whole word
+mod levels; // levels.rt: two nodes of a table, level by level
+pub mod trees; // trees.rt: between two trees, and inside one

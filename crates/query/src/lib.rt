@@ -1,7 +1,7 @@
 // From an accepted word to the rows of its plain and of its minimal tree. What gluing works in is lent on to what comes after it: clearing a table
 // takes longer than most of the work on a short word.
-use glue::build::build;
 use limits::most::MOST_NODES;
+use pool::build::build;
 use tree::Codes;
 use tree::Links;
 use tree::Marks;

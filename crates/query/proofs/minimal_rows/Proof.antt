@@ -7,7 +7,7 @@ use Rattle.query.proofs.minimal_rows.Statement.{statement}
 use Rattle.query.proofs.minimal_rows.Tie as tie
 use Rattle.query.proofs.minimal_rows.Reads as reads
 use Rattle.query.proofs.minimal_rows.Lts as lts
-use Rattle.glue.proofs.build.build.Reads as build-reads
+use Rattle.pool.proofs.build.build.Reads as build-reads
 use Rattle.tree.proofs.minimal_rows.Reads as minimal-rows-reads
 
 build-requires : tie.Need-build-requires

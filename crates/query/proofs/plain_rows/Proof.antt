@@ -8,7 +8,7 @@ use Rattle.query.proofs.plain_rows.Statement.{statement}
 use Rattle.query.proofs.plain_rows.Tie as tie
 use Rattle.query.proofs.plain_rows.Reads as reads
 use Rattle.query.proofs.plain_rows.Lts as lts
-use Rattle.glue.proofs.build.build.Reads as build-reads
+use Rattle.pool.proofs.build.build.Reads as build-reads
 use Rattle.tree.proofs.plain_rows.Reads as plain-rows-reads
 
 build-requires : tie.Need-build-requires
