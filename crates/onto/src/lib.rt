@@ -1,7 +1,7 @@
 // The folding test: "u folds onto v when u's label is a wildcard or equals v's, u's marks are among v's, and every child of u folds onto some child
 // of v", over rows in image order of which some have gone.
 ghost use mathlib.Core.Path.{_≡_};
-ghost use Prim.Native.Nat.{_<_};
+ghost use Prim.Native.Nat.{_+_, _<_};
 ghost use lib.ListN.{length, getD};
 ghost use Rattle.meaning.specs.Folding.{LabLe, TagLe};
 ghost use Rattle.rows.specs.Rows.{labOf, tagAt};
@@ -61,12 +61,20 @@ fn fits_child(code: &[u32], mark: &[u8], up: &[u16], v: usize, a: usize, b: usiz
     fits(code, mark, a, b)
 }
 
-// Row a folds onto some child of row v. A child that it does not fit costs no call, and none does where a has nothing below it.
-fn lands(code: &[u32], mark: &[u8], span: &[u16], up: &[u16], a: usize, v: usize) -> bool
-    requires { ⌜ Stands (now code) (now mark) (now span) (now up) a × Stands (now code) (now mark) (now span) (now up) v ⌝ }
+// Row a folds onto some child of row v, whose rows end at `end`. A child that it does not fit costs no call, and none does where a has nothing below it.
+fn lands(
+    code: &[u32],
+    mark: &[u8],
+    span: &[u16],
+    up: &[u16],
+    a: usize,
+    v: usize,
+    end: usize,
+) -> bool
+    requires { ⌜ Stands (now code) (now mark) (now span) (now up) a × Stands (now code) (now mark) (now span) (now up) v
+        × (end ≡ v + getD (now span) v 0) ⌝ }
     ensures { λ r. ⌜ Tells (Lands (now (code .entry)) (now (mark .entry)) (now (span .entry)) (now (up .entry)) a v) r ⌝ }
 {
-    let end = v + link(span, v);
     let mut b = v + 1;
     while b < end {
         if fits_child(code, mark, up, v, a, b) {
@@ -88,10 +96,11 @@ fn children_fold(code: &[u32], mark: &[u8], span: &[u16], up: &[u16], u: usize, 
     ensures { λ r. ⌜ Tells (ChildrenFold (now (code .entry)) (now (mark .entry)) (now (span .entry)) (now (up .entry)) u v) r ⌝ }
 {
     let end = u + link(span, u);
+    let v_end = v + link(span, v);
     let mut a = u + 1;
     while a < end {
         if is_child(up, u, a) {
-            if !lands(code, mark, span, up, a, v) {
+            if !lands(code, mark, span, up, a, v, v_end) {
                 return false;
             }
         }

@@ -44,10 +44,10 @@ abbrev lands-below : ℕ → In 4 lands-kinds.ps
 lands-below t = and 4 lands-kinds.ps (falls 4 lands-kinds.ps _<_ μ-lands t) lands.Pre
 
 abbrev children-fold-Inv-loop : children-fold-lts.InvT-loop
-children-fold-Inv-loop code mark span up u v end a₀ a = Over span u (Landed code mark span up u v) a end
+children-fold-Inv-loop code mark span up u v end v-end a₀ a = Over span u (Landed code mark span up u v) a end
 
 abbrev children-fold-μ-loop : children-fold-lts.MeasureT-loop
-children-fold-μ-loop code mark span up u v end a₀ a = end - a
+children-fold-μ-loop code mark span up u v end v-end a₀ a = end - a
 
 abbrev lands-Inv-loop : lands-lts.InvT-loop
 lands-Inv-loop code mark span up a v end b₀ b = Over span v (Misses code mark span up a v) b end
@@ -58,94 +58,86 @@ lands-μ-loop code mark span up a v end b₀ b = end - b
 pub +children-fold+lands-spec : {M : Type 1} → statement M
 +children-fold+lands-spec = close μ-children-fold μ-lands (λ t. children-fold-lts.spec
     (link-reads.Asked, link-reads.Learnt, is-child-reads.Asked, is-child-reads.Learnt, lands-below t, lands.Post)
-    (children-fold-at t)
-    children-fold.Post
-    children-fold-Inv-loop
-    children-fold-μ-loop
+    (children-fold-at t) children-fold.Post children-fold-Inv-loop children-fold-μ-loop
     (λ c κs. stands-in (c .before .before .before .before .pre .1 .0) .2)
     (λ c. let f = stands-few (c .before .before .before .before .before .pre .1 .0) (c .link .ensures .0) in omega arith)
-    (λ c. let f = stands-few (c .before .before .before .before .before .pre .1 .0) refl in omega arith)
-    (λ c. over-start (rw (c .link .ensures .0)) (c .before .before .before .before .before .pre .1 .0 .held))
+    (λ c κs. stands-in (c .before .before .before .before .before .pre .1 .1) .2)
+    (λ c. let f = stands-few (c .before .before .before .before .before .before .pre .1 .1) (c .link2 .ensures .0) in omega arith)
+    (λ c. let f = stands-few (c .before .before .before .before .before .before .pre .1 .0) refl in omega arith)
+    (λ c. over-start (rw (c .before .link .ensures .0)) (c .before .before .before .before .before .before .pre .1 .0 .held))
     -- the children of u
+    (λ c κs. stands-in (stands-child (c .before .before .before .before .before .before .before .before .pre .1 .0) (c .before .loop .inv) (c .loop-test .taken)) .3)
     (λ c κs.
-    stands-in (stands-child (c .before .before .before .before .before .before .before .pre .1 .0) (c .before .loop .inv) (c .loop-test .taken)) .3)
-    (λ c κs.
-    let t = c .before .before in let s = t .before .before .before .before .before .before .before in
-    let O = t .before .loop .inv in
-    let l = t .loop-test .taken in
-    (omega (arith, s .pre .0, height-falls (s .pre .1 .0) O l), (stands-child (s .pre .1 .0) O l, s .pre .1 .1)))
+    let t = c .before .before in let h = t .before in let k = h .before in let s = k .before .before .before .before .before .before in
+    let O = h .loop .inv in
+    let l = t .loop-test .taken in (
+      omega (arith, s .pre .0, height-falls (s .pre .1 .0) O l),
+      (stands-child (s .pre .1 .0) O l, s .pre .1 .1, rw (k .link2 .ensures .0)),
+    ))
     (λ c.
-    let i = c .before .before in let t = i .before .before in let s = t .before .before .before .before .before .before .before in
+    let i = c .before .before in let t = i .before .before in let s = t .before .before .before .before .before .before .before .before in
     not-so (none-landed (s .pre .1 .0) (s .pre .1 .1) (t .before .loop .inv) (t .loop-test .taken)
     (yes-told (i .before .is-child .ensures) (i .if1 .taken))
     (no-told (c .before .lands .ensures) (not-true _ (c .if2 .taken)))))
     (λ c κs.
     let t = c .before .before in
-    stands-in (stands-child (t .before .before .before .before .before .before .before .pre .1 .0) (t .before .loop .inv) (t .loop-test .taken)) .2)
+    stands-in (stands-child (t .before .before .before .before .before .before .before .before .pre .1 .0) (t .before .loop .inv) (t .loop-test .taken)) .2)
     (λ c.
-    let t = c .before .before .before in
-    let S = t .before .before .before .before .before .before .before .pre .1 .0 in
-    let f = stands-few (stands-child S (t .before .loop .inv) (t .loop-test .taken)) (c .link2 .ensures .0) in
+    let t = c .before .before .before in let s = t .before .before .before .before .before .before .before .before in
+    let f = stands-few (stands-child (s .pre .1 .0) (t .before .loop .inv) (t .loop-test .taken)) (c .link3 .ensures .0) in
     omega arith)
     (λ c.
     let t = c .before .before .before in
-    let z = over-step (t .before .loop .inv) (t .loop-test .taken) (c .link2 .ensures .0) in
-    omega (arith, z))
+    omega (arith, over-step (t .before .loop .inv) (t .loop-test .taken) (c .link3 .ensures .0)))
     (λ c.
-    let i = c .before .before in
-    over-next (i .before .before .loop .inv) (i .before .loop-test .taken) (c .link2 .ensures .0)
-    (⊎-elim (λ w q. yes-told (w .1 .ensures) (not-false _ (w .2 .left))) (λ w q. absurd (no-told (i .is-child .ensures) (w .left) q)) (c .before .if1 .came)))
+    let i = c .before .before in let t = i .before in
+    over-next (t .before .loop .inv) (t .loop-test .taken) (c .link3 .ensures .0)
+    (⊎-elim (λ w q. yes-told (w .1 .ensures) (not-false _ (w .2 .left)))
+    (λ w q. absurd (no-told (i .is-child .ensures) (w .left) q)) (c .before .if1 .came)))
     (λ c.
-    let s = c .before .before .before .before .before .before .before in
+    let s = c .before .before .before .before .before .before .before .before in
     so (all-landed (s .pre .1 .0) (s .pre .1 .1) (c .before .loop .inv) (c .loop-test .left))))
     λ t. lands-lts.spec
-    (link-reads.Asked, link-reads.Learnt, fits-child-reads.Asked, fits-child-reads.Learnt, children-fold-below t, children-fold.Post)
-    (lands-at t)
-    lands.Post
-    lands-Inv-loop
-    lands-μ-loop
-    (λ c κs. stands-in (c .before .before .before .before .pre .1 .1) .2)
-    (λ c. let f = stands-few (c .before .before .before .before .before .pre .1 .1) (c .link .ensures .0) in omega arith)
-    (λ c. let f = stands-few (c .before .before .before .before .before .pre .1 .1) refl in omega arith)
-    (λ c. over-start (rw (c .link .ensures .0)) (c .before .before .before .before .before .pre .1 .1 .held))
+    (fits-child-reads.Asked, fits-child-reads.Learnt, link-reads.Asked, link-reads.Learnt, children-fold-below t, children-fold.Post)
+    (lands-at t) lands.Post lands-Inv-loop lands-μ-loop
+    (λ c. let f = stands-few (c .before .before .before .before .pre .1 .1) refl in omega arith)
+    (λ c. let s = c .before .before .before .before in over-start (s .pre .1 .2) (s .pre .1 .1 .held))
     -- the children of v
     (λ c κs.
-    let s = c .before .before .before .before .before .before .before in
+    let s = c .before .before .before .before .before .before in
     let A = stands-in (s .pre .1 .0) in
     let B = stands-in (stands-child (s .pre .1 .1) (c .before .loop .inv) (c .loop-test .taken)) in
     (A .0, B .0, A .1, B .1, B .3))
-    (λ c κs. stands-in (c .before .before .before .before .before .before .before .before .before .pre .1 .0) .2)
+    (λ c κs. stands-in (c .before .before .before .before .before .before .before .before .pre .1 .0) .2)
     (λ c.
-    let i = c .before .before in let t = i .before .before in let h = t .before in let s = h .before .before .before .before .before .before in
+    let i = c .before .before in let t = i .before .before in let s = t .before .before .before .before .before .before in
+    let O = t .before .loop .inv in
     let l = t .loop-test .taken in
-    let R = s .pre .1 .1 in
-    so (lands-here (s .pre .1 .0) R (h .loop .inv) l
-    (yes-told (i .before .fits-child .ensures) (i .if1 .taken))
-    (lone-folds (s .pre .1 .0) (stands-child R (h .loop .inv) l) (sym (c .before .link2 .ensures .0) ∙ c .if2 .taken))))
+    so (lands-here (s .pre .1 .0) (s .pre .1 .1) O l (yes-told (i .before .fits-child .ensures) (i .if1 .taken))
+    (lone-folds (s .pre .1 .0) (stands-child (s .pre .1 .1) O l) (sym (c .before .link .ensures .0) ∙ c .if2 .taken))))
     (λ c κs.
-    let t = c .before .before .before .before in let s = t .before .before .before .before .before .before .before in
+    let t = c .before .before .before .before in let s = t .before .before .before .before .before .before in
     (omega (arith, s .pre .0), (s .pre .1 .0, stands-child (s .pre .1 .1) (t .before .loop .inv) (t .loop-test .taken))))
     (λ c.
-    let i = c .before .before .before .before in let t = i .before .before in let s = t .before .before .before .before .before .before .before in
+    let i = c .before .before .before .before in let t = i .before .before in let s = t .before .before .before .before .before .before in
     so (lands-here (s .pre .1 .0) (s .pre .1 .1) (t .before .loop .inv) (t .loop-test .taken)
     (yes-told (i .before .fits-child .ensures) (i .if1 .taken))
     (yes-told (c .before .children-fold .ensures) (c .if3 .taken))))
     (λ c κs.
     let t = c .before .before in
-    stands-in (stands-child (t .before .before .before .before .before .before .before .pre .1 .1) (t .before .loop .inv) (t .loop-test .taken)) .2)
+    stands-in (stands-child (t .before .before .before .before .before .before .pre .1 .1) (t .before .loop .inv) (t .loop-test .taken)) .2)
     (λ c.
-    let t = c .before .before .before in
-    let S = t .before .before .before .before .before .before .before .pre .1 .1 in
-    let f = stands-few (stands-child S (t .before .loop .inv) (t .loop-test .taken)) (c .link3 .ensures .0) in
+    let t = c .before .before .before in let s = t .before .before .before .before .before .before in
+    let f = stands-few (stands-child (s .pre .1 .1) (t .before .loop .inv) (t .loop-test .taken)) (c .link2 .ensures .0) in
     omega arith)
     (λ c.
     let t = c .before .before .before in
-    let z = over-step (t .before .loop .inv) (t .loop-test .taken) (c .link3 .ensures .0) in
-    omega (arith, z))
+    omega (arith, over-step (t .before .loop .inv) (t .loop-test .taken) (c .link2 .ensures .0)))
     (λ c.
-    let f = c .before .before in
-    over-next (f .before .before .loop .inv) (f .before .loop-test .taken) (c .link3 .ensures .0)
-    (⊎-elim (λ w q o. no-told (w .3 .ensures) (w .4 .left) (o .1)) (λ w q o. no-told (f .fits-child .ensures) (w .left) (q, o .0)) (c .before .if1 .came)))
+    let f = c .before .before in let t = f .before in
+    over-next (t .before .loop .inv) (t .loop-test .taken) (c .link2 .ensures .0)
+    (⊎-elim (λ w q o. no-told (w .3 .ensures) (w .4 .left) (o .1))
+    (λ w q o. no-told (f .fits-child .ensures) (w .left) (q, o .0)) (c .before .if1 .came)))
     (λ c.
-    let s = c .before .before .before .before .before .before .before in
+    let s = c .before .before .before .before .before .before in
     not-so (lands-nowhere (s .pre .1 .0) (s .pre .1 .1) (c .before .loop .inv) (c .loop-test .left)))
