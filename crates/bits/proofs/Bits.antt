@@ -87,7 +87,7 @@ unfolding bitOf
 zero-bit k = rw (zero-div (2 ^ k))
 
 -- ------------------------------------------------------------------ a byte sifted bit by bit
-both : (x y : Bool) → (x && y) ≡ true → (x ≡ true) × (y ≡ true)
+pub both : (x y : Bool) → (x && y) ≡ true → (x ≡ true) × (y ≡ true)
 both true y e = (refl, e)
 both false y e = never cc
 
@@ -117,11 +117,11 @@ mask-here k l = not-true (bitOf (255 - 2 ^ k) k) (rw (eq-eqb k k refl) at (mask-
 mask-other : (k j : ℕ) → k < 8 → j < 8 → (j ≡ k → ⊥) → bitOf (255 - 2 ^ k) j ≡ true
 mask-other k j lk lj ne = rw (ne-eqb j k ne) at (mask-at k j lk lj)
 
-and-true : (x : Bool) → (x && true) ≡ x
+pub and-true : (x : Bool) → (x && true) ≡ x
 and-true true = refl
 and-true false = refl
 
-and-false : (x : Bool) → (x && false) ≡ false
+pub and-false : (x : Bool) → (x && false) ≡ false
 and-false true = refl
 and-false false = refl
 
