@@ -87,7 +87,7 @@ unfolding bitOf
 zero-bit k = rw (zero-div (2 ^ k))
 
 -- ------------------------------------------------------------------ a byte sifted bit by bit
-both : (x y : Bool) → (x && y) ≡ true → (x ≡ true) × (y ≡ true)
+pub both : (x y : Bool) → (x && y) ≡ true → (x ≡ true) × (y ≡ true)
 both true y e = (refl, e)
 both false y e = never cc
 

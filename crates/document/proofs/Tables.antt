@@ -2,7 +2,7 @@
 use mathlib.Core.Path.{_≡_, refl, sym, ap, _∙_}
 use mathlib.Core.Logic.{_↔_}
 use mathlib.Core.List.{List, [], _∷_}
-use mathlib.Core.Bool.{Bool, true, false, not, _&&_}
+use mathlib.Core.Bool.{Bool, true, false, not, _&&_, and-true, and-false}
 use Prim.Native.Nat.{ℕ, zero, suc, _+_, _≤_, _<_}
 use native.Mathlib.Omega.{arith}
 use native.Mathlib.Numerals.{add-one}
@@ -15,22 +15,11 @@ use Rattle.meaning.specs.Number.{largestLabel}
 use Rattle.meaning.specs.Document.{DocRow, Child, docRow, labelOf, In}
 use Rattle.meaning.specs.Matching.{parentOk, rowsOk, goodTable, docOf}
 use Rattle.theory.proofs.Look.{never}
-
-both : (a b : Bool) → (a && b) ≡ true → (a ≡ true) × (b ≡ true)
-both true b e = (refl, e)
-both false b e = never cc
+use Rattle.bits.proofs.Bits.{both}
 
 -- ------------------------------------------------------------------ one row
 pub row-label : (x p l : ℕ) → largestLabel < l → false ≡ (parentOk x p && leb l largestLabel)
-row-label x p l h = sym (rw (lt-leb l largestLabel h) (no (parentOk x p)))
-  where
-    no : (t : Bool) → (t && false) ≡ false
-    no true = refl
-    no false = refl
-
-and-true : (t : Bool) → (t && true) ≡ t
-and-true true = refl
-and-true false = refl
+row-label x p l h = sym (rw (lt-leb l largestLabel h) (and-false (parentOk x p)))
 
 -- one row more is good, or it is not
 pub good-not : (good r row : Bool) → r ≡ row → not r ≡ true → false ≡ (good && row)
@@ -63,11 +52,7 @@ module _ (P L : List ℕ) where
 
   pub table-many : mostRows < length P → false ≡ goodTable P L
   unfolding goodTable
-  table-many h = sym (rw (lt-leb (length P) mostRows h) (no (leb 1 (length P))))
-    where
-      no : (t : Bool) → ((t && false) && rowsOk 0 P L) ≡ false
-      no true = refl
-      no false = refl
+  table-many h = sym (rw (lt-leb (length P) mostRows h, and-false (leb 1 (length P))))
 
   pub table-uneven : (length L ≡ length P → ⊥) → false ≡ goodTable P L
   unfolding goodTable
