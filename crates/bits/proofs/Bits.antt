@@ -91,7 +91,7 @@ both : (x y : Bool) → (x && y) ≡ true → (x ≡ true) × (y ≡ true)
 both true y e = (refl, e)
 both false y e = never cc
 
-all-to : (n : ℕ) (f : ℕ → Bool) → allTo n f ≡ true → (k : ℕ) → k < n → f k ≡ true
+pub all-to : (n : ℕ) (f : ℕ → Bool) → allTo n f ≡ true → (k : ℕ) → k < n → f k ≡ true
 unfolding allTo
 all-to zero f e k l = absurd (omega arith)
 all-to (suc n) f e k l = go (ℕ-discrete k n) (λ lower. all-to n f (both (allTo n f) (f n) e .0) k lower)

@@ -10,9 +10,9 @@ use lib.Dec.{leb, ltb, eqb}
 use borrow.Author.Tests.{lt-ltb, le-ltb, le-leb, lt-leb, eq-eqb, ne-eqb}
 use Rattle.meaning.specs.Tree.{Forest, bare, tree, Tag, size}
 use Rattle.meaning.specs.Normal.{holds, inTree, bothIn, eitherIn}
-use Rattle.rows.specs.Rows.{below, mapT, Holds}
+use Rattle.rows.specs.Rows.{covers, below, mapT, Holds}
 use Rattle.rows.proofs.Rows.{size-holds, Opens}
-use Rattle.branches.specs.Factors.{tagged, under, covers}
+use Rattle.branches.specs.Factors.{tagged, under}
 
 -- row x is among the rows from u up to e
 abbrev between : ℕ → ℕ → ℕ → Bool

@@ -1,13 +1,13 @@
 -- The factors of a row: the chain of a branch, and "a node's own factors".
-use mathlib.Core.Bool.{Bool, _&&_, _||_, cond}
+use mathlib.Core.Bool.{_||_, cond}
 use mathlib.Core.List.{List, [], _∷_, _++_}
-use Prim.Native.Nat.{ℕ, _+_, _<_}
+use Prim.Native.Nat.{ℕ, _<_}
 use lib.ListN.{getD}
-use lib.Dec.{leb, ltb, eqb}
+use lib.Dec.{eqb}
 use Rattle.meaning.specs.Expression.{Expr, child}
 use Rattle.meaning.specs.Tree.{Forest, Tag}
 use Rattle.meaning.specs.Normal.{labelled, branch, onward, chains, eitherIn, off}
-use Rattle.rows.specs.Rows.{labOf, below, mapT, Rows}
+use Rattle.rows.specs.Rows.{labOf, covers, below, mapT, Rows}
 
 -- row u is one of some rows that are a tree
 pub record Row (code kids span : List ℕ) (u : ℕ) : Type 0 where
@@ -37,10 +37,6 @@ onwardAt code span u = onward (chains (under code span u u u))
 -- the chain of a branch that starts at row u: "child, the node's label, and then" what goes on below it
 unfoldable pub chainAt : List ℕ → List ℕ → ℕ → List Expr
 chainAt code span u = child ∷ labelled (labOf (getD code u 0)) (onwardAt code span u)
-
--- row x lies at or below row c
-unfoldable pub covers : List ℕ → ℕ → ℕ → Bool
-covers span c x = leb c x && ltb x (c + getD span c 0)
 
 -- the first projection for row c, if it is off the ways to row x and to row y
 unfoldable pub offAt : List ℕ → List ℕ → ℕ → ℕ → ℕ → List Expr

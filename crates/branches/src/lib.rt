@@ -1,33 +1,16 @@
 // Branches and a node's own factors, written into the caller's room. Factors are joined from the left: the first of them went to place `from`, so a
 // factor that goes to a later place is followed by the sign 4.
 ghost use mathlib.Core.Path.{_≡_};
-ghost use Prim.Native.Nat.{_+_, _<_, _≤_};
+ghost use Prim.Native.Nat.{suc, _+_, _<_, _≤_};
 ghost use lib.ListN.{length, getD};
 ghost use lib.Dec.{ltb};
-ghost use Rattle.meaning.specs.Number.{num};
+ghost use Rattle.meaning.specs.Number.{num, largestLabel};
 ghost use Rattle.meaning.specs.Normal.{branch as branchOf, wordOf};
 ghost use Rattle.groups.specs.Put.{Written};
 ghost use Rattle.branches.specs.Joining.{joint, factor, fill};
-ghost use Rattle.branches.specs.Factors.{Row, labelAt, chainAt, covers, offAt, ownAt};
-
-// How many rows row u and all below it take.
-pub fn span_at(span: &[u16], u: usize) -> usize
-    requires { ⌜ u < length (now span) ⌝ }
-    ensures { λ r. ⌜ (r ≡ getD (now (span .entry)) u 0) × (r < 65536) ⌝ }
-{
-    span[u] as usize
-}
-
-// Row x lies at or below row c.
-pub fn holds(span: &[u16], c: usize, x: usize) -> bool
-    requires { ⌜ (c < length (now span)) × (c < 256) ⌝ }
-    ensures { λ r. ⌜ r ≡ covers (now (span .entry)) c x ⌝ }
-{
-    if x < c {
-        return false;
-    }
-    x < c + span_at(span, c)
-}
+ghost use Rattle.branches.specs.Factors.{Row, labelAt, chainAt, offAt, ownAt};
+use rows::holds;
+use rows::link;
 
 // The factor that went to place `at` and ends at place `end` is joined to what stands before it.
 pub fn join(room: &mut [u8], from: usize, at: usize, end: usize) -> usize
@@ -51,7 +34,7 @@ pub fn put_sign(room: &mut [u8], from: usize, at: usize, sign: u32) -> usize
 
 // "its label, if any": code L + 1 is the sign 9 + L
 fn put_label(code: &[u32], u: usize, room: &mut [u8], from: usize, at: usize) -> usize
-    requires { ⌜ (u < length (now code)) × (getD (now code) u 0 ≤ 65536) × (at + length (fill from at (labelAt (now code) u)) ≤ length (now room)) ⌝ }
+    requires { ⌜ (u < length (now code)) × (getD (now code) u 0 ≤ suc largestLabel) × (at + length (fill from at (labelAt (now code) u)) ≤ length (now room)) ⌝ }
     ensures { λ r. ⌜ Written (now (room .entry)) at (fill from at (labelAt (now (code .entry)) u)) (now (room .exit)) r ⌝ }
 {
     let x = code[u];
@@ -88,13 +71,13 @@ fn chain(
     if kids[u] == 1 {
         return chain(code, kids, span, u + 1, room, from, end);
     }
-    let stop = u + span_at(span, u);
+    let stop = u + link(span, u);
     let mut c = u + 1;
     let mut place = end;
     while c < stop {
         let past = branch(code, kids, span, c, room, place);
         place = join(room, from, place, past);
-        c += span_at(span, c);
+        c += link(span, c);
     }
     place
 }
@@ -140,11 +123,11 @@ pub fn own(
     ensures { λ r. ⌜ Written (now (room .entry)) at (fill from at (ownAt (now (code .entry)) (now (span .entry)) x y u)) (now (room .exit)) r ⌝ }
 {
     let mut place = put_label(code, u, room, from, at);
-    let stop = u + span_at(span, u);
+    let stop = u + link(span, u);
     let mut c = u + 1;
     while c < stop {
         place = put_off(code, kids, span, c, x, y, room, from, place);
-        c += span_at(span, c);
+        c += link(span, c);
     }
     place
 }

@@ -8,6 +8,7 @@ use native.Mathlib.Omega.{arith}
 use native.Mathlib.Decide.{ℕ-discrete, decLt}
 use lib.ListN.{length, getD, set, length-set}
 use lib.Seq.{getD-set-same, getD-set-other}
+use Rattle.meaning.specs.Limits.{mostNodes}
 use Rattle.meaning.specs.Tree.{Forest, bare, tree, Tag, Any, size}
 use Rattle.meaning.specs.Folding.{Onto}
 use Rattle.theory.proofs.Folding.{Equal, equal-refl, equal-trans}
@@ -21,7 +22,7 @@ use Rattle.fold.proofs.Listing.{Whence, stood, lists-less}
 
 -- ------------------------------------------------------------------ below a child nothing changes
 module _ (code mark span : List ℕ) {p : ℕ} {up up′ : List ℕ} (only : Only span p up up′) where
-  pub left-same : (q u e : ℕ) (F : Forest ℕ) → Holds span u e F → p < q → p < u → q < 256 → e ≤ 256 → left code mark up′ q F ≡ left code mark up q F
+  pub left-same : (q u e : ℕ) (F : Forest ℕ) → Holds span u e F → p < q → p < u → q < mostNodes → e ≤ mostNodes → left code mark up′ q F ≡ left code mark up q F
   left-same q u e bare h a b c d = left-bare code mark up′ q ∙ sym (left-bare code mark up q)
   left-same q u e (tree i k r) h a b c d =
       let s = size-holds span (suc i + size k) e r (h .3) in
@@ -36,7 +37,7 @@ module _ (code mark span : List ℕ) {p : ℕ} {up up′ : List ℕ} (only : Onl
       go (no n) (inl s) x y = rw (left-away code mark up′ q i k r (λ z. n (sym s ∙ z)), left-away code mark up q i k r n) y
       go (no n) (inr g) x y = rw (left-away code mark up′ q i k r (λ z. omega (arith, g .away)), left-away code mark up q i k r n) y
 
-  pub below-same : (x : ℕ) → p < x → x + getD span x 0 ≤ 256 → 1 ≤ getD span x 0 → Holds span (suc x) (x + getD span x 0) (below span x)
+  pub below-same : (x : ℕ) → p < x → x + getD span x 0 ≤ mostNodes → 1 ≤ getD span x 0 → Holds span (suc x) (x + getD span x 0) (below span x)
       → leftBelow code mark span up′ x ≡ leftBelow code mark span up x
   below-same x l m n h = left-same x (suc x) (x + getD span x 0) (below span x) h l (omega arith) (omega arith) m
 

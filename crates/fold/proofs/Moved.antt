@@ -12,6 +12,7 @@ use lib.ListN.{length, getD, set, length-set, length-append}
 use lib.Seq.{getD-set-same, getD-set-other, getD-at}
 use lib.Dec.{eqb}
 use borrow.Author.Tests.{eq-eqb, ne-eqb}
+use Rattle.meaning.specs.Limits.{mostNodes}
 use Rattle.meaning.specs.Tree.{Forest, bare, tree, size}
 use Rattle.rows.specs.Rows.{tagAt, shape, mapT, treeRows, Holds, width, Counted, Hung, noRow, Rows}
 use Rattle.rows.proofs.Rows.{size-mapT, width-mapT, size-holds, holds-is, row-opens, rows-top, row-up}
@@ -50,7 +51,7 @@ module _ {span up : List ℕ} {n : ℕ} where
   walk-stop (skip l g w) m = absurd (omega arith)
   walk-stop (take l d w) m = absurd (omega arith)
 
-module _ (span up was : List ℕ) (n : ℕ) (few : n ≤ 256) (only : (j : ℕ) → (getD up j 0 ≡ getD was j 0) ⊎ ((0 < j) × (j < n) × (getD up j 0 ≡ goneRow))) where
+module _ (span up was : List ℕ) (n : ℕ) (few : n ≤ mostNodes) (only : (j : ℕ) → (getD up j 0 ≡ getD was j 0) ⊎ ((0 < j) × (j < n) × (getD up j 0 ≡ goneRow))) where
   -- it meets the nodes that are left, in their order
   walk-nodes : (p u e : ℕ) (F : Forest ℕ) (xs : List ℕ) → Holds span u e F → Hung was p F → ¬ (p ≡ goneRow) → e ≤ n → Walk span up n e xs
       → Walk span up n u (nodes (kept up p F) ++ xs)
@@ -341,7 +342,7 @@ module _ (code₀ mark₀ up code mark parent moved : List ℕ) (i : ℕ) where
       (rw (f .place, width-mapT to k) v, counted-moved s (suc t) k a w, counted-moved s (suc t + size k) r b y)
 
   -- their parents
-  hung-moved : (p q t : ℕ) (F : Forest ℕ) → Hung up p F → Spread P t F → q ≡ cond (eqb p noRow) noRow (to p) → i ≤ 256 → Hung parent q (mapT to F)
+  hung-moved : (p q t : ℕ) (F : Forest ℕ) → Hung up p F → Spread P t F → q ≡ cond (eqb p noRow) noRow (to p) → i ≤ mostNodes → Hung parent q (mapT to F)
   unfolding mapT parentMoved
   hung-moved p q t bare h s e l = tt
   hung-moved p q t (tree x k r) (g, h, h′) (f, a, b) e l = (

@@ -2,17 +2,20 @@
 -- some child of v." A law for each way out of the code, and the height of what lies below a row, which falls from a row to its children.
 use mathlib.Core.Path.{_≡_, refl, sym, ap, _∙_}
 use mathlib.Core.Logic.{_⊎_, inl, inr}
-use mathlib.Core.Bool.{Bool, true, false}
+use mathlib.Core.Bool.{Bool, true, false, Bool·beq}
 use mathlib.Core.List.{List}
-use Prim.Native.Nat.{ℕ, zero, suc, _+_, _%_, _≤_, _<_}
+use Prim.Native.Nat.{ℕ, zero, suc, _+_, _/_, _%_, _^_, _≤_, _<_}
 use native.Mathlib.Omega.{arith}
 use native.Mathlib.Decide.{ℕ-discrete}
 use lib.ListN.{getD}
-use lib.Dec.{ltb, eqb}
-use borrow.Author.Tests.{lt-ltb, le-ltb, eq-eqb, ne-eqb, eqb-true, eqb-false}
+use lib.Dec.{eqb}
+use lib.Bits.{bitAnd, and-mod}
+use borrow.Author.Tests.{eq-eqb, ne-eqb, eqb-true, eqb-false}
 use Rattle.meaning.specs.Basics.{is, decBoth}
 use Rattle.meaning.specs.Tree.{Forest, bare, tree}
 use Rattle.meaning.specs.Folding.{LabLe, MarkLe, TagLe, Folds, Onto, decLab, decMark, decTag, decFolds, decOnto}
+use Rattle.bits.specs.Bits.{bitOf, allTo}
+use Rattle.bits.proofs.Bits.{all-to}
 use Rattle.rows.specs.Rows.{labOf, tagAt, below, Holds}
 use Rattle.rows.proofs.Rows.{Opens, holds-first}
 use Rattle.theory.proofs.Look.{never}
@@ -42,32 +45,38 @@ is-rest (yes q) d p = is-yes d (p, q)
 is-rest (no n) d p = is-no d (λ z. n (z .1))
 
 -- ------------------------------------------------------------------ marks
-abbrev marksDec : (s t : ℕ) → Dec (MarkLe (eqb (s % 2) 1) (eqb (t % 2) 1) × MarkLe (ltb 1 s) (ltb 1 t))
-marksDec s t = decBoth (decMark (eqb (s % 2) 1) (eqb (t % 2) 1)) (decMark (ltb 1 s) (ltb 1 t))
+abbrev marksDec : (s t : ℕ) → Dec (MarkLe (bitOf s 0) (bitOf t 0) × MarkLe (bitOf s 1) (bitOf t 1))
+marksDec s t = decBoth (decMark (bitOf s 0) (bitOf t 0)) (decMark (bitOf s 1) (bitOf t 1))
 
-module _ (s t : ℕ) where
-  pub marks-no-src : t % 2 < s % 2 → false ≡ marksFit s t
-  unfolding marksFit
-  marks-no-src l = is-no (marksDec s t) (λ m. rw (eq-eqb (s % 2) 1 (omega arith), ne-eqb (t % 2) 1 (λ e. omega arith)) at (m .0))
+pub marks-none : (s t : ℕ) → s ≡ 0 → true ≡ marksFit s t
+unfolding marksFit bitOf decMark
+marks-none s t e = rw e
 
-  src-fits : s % 2 ≤ t % 2 → MarkLe (eqb (s % 2) 1) (eqb (t % 2) 1)
-  src-fits l = go (ℕ-discrete (s % 2) 1)
-    where
-      go : Dec (s % 2 ≡ 1) → MarkLe (eqb (s % 2) 1) (eqb (t % 2) 1)
-      go (yes e) = rw (eq-eqb (s % 2) 1 e, eq-eqb (t % 2) 1 (omega arith)) tt
-      go (no n) = rw (ne-eqb (s % 2) 1 n) tt
+-- the marks of two rows, by the two lowest bits of each number: sixteen cases
+all-fit : allTo 4 (λ s. allTo 4 (λ t. Bool·beq (eqb (bitAnd s t) s) (marksFit s t))) ≡ true
+unfolding allTo marksFit bitOf decMark
+all-fit = refl
 
-  pub marks-no-dst : s % 2 ≤ t % 2 → s < 2 → true ≡ marksFit s t
-  unfolding marksFit
-  marks-no-dst l m = is-yes (marksDec s t) (src-fits l, rw (le-ltb 1 s (omega arith)) tt)
+low-bits : (s t : ℕ) → marksFit (s % 4) (t % 4) ≡ marksFit s t
+unfolding marksFit bitOf decMark
+low-bits s t =
+    let a : s % 4 / 2 ^ 0 % 2 ≡ s / 2 ^ 0 % 2 = omega arith in
+    let b : t % 4 / 2 ^ 0 % 2 ≡ t / 2 ^ 0 % 2 = omega arith in
+    let c : s % 4 / 2 ^ 1 % 2 ≡ s / 2 ^ 1 % 2 = omega arith in
+    let d : t % 4 / 2 ^ 1 % 2 ≡ t / 2 ^ 1 % 2 = omega arith in
+    rw (a, b, c, d)
 
-  pub marks-dst : s % 2 ≤ t % 2 → 2 ≤ s → ltb 1 t ≡ marksFit s t
-  unfolding marksFit
-  marks-dst l m = go (ltb 1 t) refl
-    where
-      go : (b : Bool) → ltb 1 t ≡ b → ltb 1 t ≡ marksFit s t
-      go true e = e ∙ is-yes (marksDec s t) (src-fits l, rw (lt-ltb 1 s (omega arith), e) tt)
-      go false e = e ∙ is-no (marksDec s t) (λ w. rw (lt-ltb 1 s (omega arith), e) at (w .1))
+pub marks-and : (s t : ℕ) → eqb (bitAnd s t % 4) (s % 4) ≡ marksFit s t
+marks-and s t =
+    ap (λ (n : ℕ). eqb n (s % 4)) (and-mod s t 2)
+    ∙ same _ _ (all-to 4 _ (all-to 4 _ all-fit (s % 4) (omega arith)) (t % 4) (omega arith))
+    ∙ low-bits s t
+  where
+    same : (x y : Bool) → Bool·beq x y ≡ true → x ≡ y
+    same true true e = refl
+    same false false e = refl
+    same true false e = never cc
+    same false true e = never cc
 
 -- ------------------------------------------------------------------ labels and marks
 lab-any : (x y : ℕ) → x ≡ 0 → LabLe (labOf x) (labOf y)

@@ -4,14 +4,16 @@ use mathlib.Core.Path.{_≡_}
 use mathlib.Core.Logic.{_⊎_}
 use mathlib.Core.Bool.{Bool, cond}
 use mathlib.Core.List.{List}
-use Prim.Native.Nat.{ℕ, suc, _+_, _%_, _≤_, _<_, max}
+use Prim.Native.Nat.{ℕ, suc, _+_, _≤_, _<_, max}
 use native.Mathlib.Decide.{ℕ-discrete}
 use lib.ListN.{length, getD, set}
-use lib.Dec.{ltb, eqb}
+use lib.Dec.{eqb}
+use Rattle.meaning.specs.Limits.{mostNodes}
 use Rattle.meaning.specs.Basics.{is, decBoth}
 use Rattle.meaning.specs.Tree.{Forest, bare, tree, Tag, Any}
 use Rattle.meaning.specs.Folding.{Folds, Onto, decMark, decTag, decFolds, decOnto, minimal}
 use Rattle.meaning.specs.Image.{ordered}
+use Rattle.bits.specs.Bits.{bitOf}
 use Rattle.rows.specs.Rows.{tagAt, below, shape, mapT, treeRows, Holds, Hung, width, noRow, Rows}
 
 -- ------------------------------------------------------------------ what is still there
@@ -39,7 +41,7 @@ keptTree code mark span up n = left code mark up noRow (shape span n)
 -- ------------------------------------------------------------------ the folding test
 -- "u's marks are among v's", by the numbers of the marks
 unfoldable pub marksFit : ℕ → ℕ → Bool
-marksFit s t = is (decBoth (decMark (eqb (s % 2) 1) (eqb (t % 2) 1)) (decMark (ltb 1 s) (ltb 1 t)))
+marksFit s t = is (decBoth (decMark (bitOf s 0) (bitOf t 0)) (decMark (bitOf s 1) (bitOf t 1)))
 
 -- row b is a child of row v that is still there, and row a's label and marks fit it
 unfoldable pub fitsChild : List ℕ → List ℕ → List ℕ → ℕ → ℕ → ℕ → Bool
@@ -68,7 +70,7 @@ pub record Stands (code mark span up : List ℕ) (u : ℕ) : Type 0 where
   pub marks : u + getD span u 0 ≤ length mark
   pub spans : u + getD span u 0 ≤ length span
   pub ups : u + getD span u 0 ≤ length up
-  pub few : u + getD span u 0 ≤ 256
+  pub few : u + getD span u 0 ≤ mostNodes
   pub held : Holds span (suc u) (u + getD span u 0) (below span u)
 
 -- ------------------------------------------------------------------ the search for foldable brothers
@@ -87,9 +89,9 @@ pub record Listable (span up : List ℕ) (p : ℕ) (child : List ℕ) : Type 0 w
   pub spans : p + getD span p 0 ≤ length span
   pub some : 1 ≤ getD span p 0
   pub ups : p + getD span p 0 ≤ length up
-  pub few : p + getD span p 0 ≤ 256
+  pub few : p + getD span p 0 ≤ mostNodes
   pub held : Holds span (suc p) (p + getD span p 0) (below span p)
-  pub room : 256 ≤ length child
+  pub room : mostNodes ≤ length child
 
 -- the first k of the list are the rows that are P, each once
 pub record Lists (P : ℕ → Type 0) (child : List ℕ) (k : ℕ) : Type 0 where
@@ -151,7 +153,7 @@ pub record ChildrenFolded (code mark span up : List ℕ) (p : ℕ) (up′ : List
 
 -- n rows that are a tree, or no rows; nothing is asked of the numbers of children, nor of labels and marks
 pub record Whole (code mark span up : List ℕ) (n : ℕ) : Type 0 where
-  pub few : n ≤ 256
+  pub few : n ≤ mostNodes
   pub codes : n ≤ length code
   pub marks : n ≤ length mark
   pub spans : n ≤ length span
@@ -186,7 +188,7 @@ pub record Movable (code mark up : List ℕ) (i : ℕ) (parent moved : List ℕ)
   pub parents : j < length parent
   pub moves : i < length moved
   pub front : j ≤ i
-  pub few : i < 256
+  pub few : i < mostNodes
   pub above : (getD up i 0 ≡ noRow) ⊎ (getD up i 0 < length moved)
 
 -- row i is put at place j

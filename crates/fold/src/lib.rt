@@ -5,20 +5,15 @@ ghost use Prim.Native.Nat.{_+_, _<_, _≤_};
 ghost use lib.ListN.{length, getD};
 ghost use lib.Dec.{eqb};
 ghost use mathlib.Core.Logic.{_⊎_};
+ghost use Rattle.meaning.specs.Limits.{mostNodes};
 ghost use Rattle.meaning.specs.Basics.{is};
 ghost use Rattle.meaning.specs.Folding.{decLab, decTag};
 ghost use Rattle.rows.specs.Rows.{labOf, tagAt, noRow};
 ghost use Rattle.fold.specs.Kept.{marksFit, fitsChild, belowFold, ontoRow, Stands, Listable, Listed, Searchable, FirstFoldable, TakenOut, ChildrenFolded, Whole, RowsFolded, parentMoved, Movable, RowMoved, Remains, RowsKept};
-
-const GONE: u16 = 65534;
-
-const NO_ROW: u16 = 65535;
-
-fn wide(x: u16) -> usize
-    ensures { λ r. ⌜ r ≡ x ⌝ }
-{
-    x as usize
-}
+use rows::GONE;
+use rows::NO_ROW;
+use rows::link;
+use rows::wide;
 
 // "u's marks are among v's": most rows bear none.
 fn marks_fit(mark: &[u8], u: usize, v: usize) -> bool
@@ -30,13 +25,7 @@ fn marks_fit(mark: &[u8], u: usize, v: usize) -> bool
         return true;
     }
     let t = mark[v];
-    if t % 2 < s % 2 {
-        return false;
-    }
-    if s < 2 {
-        return true;
-    }
-    1 < t
+    (s & t) % 4 == s % 4
 }
 
 // "u's label is a wildcard or equals v's", by their codes
@@ -60,20 +49,12 @@ fn fits(code: &[u32], mark: &[u8], u: usize, v: usize) -> bool
     marks_fit(mark, u, v)
 }
 
-// The number of rows that row u and all below it take.
-fn span_at(span: &[u16], u: usize) -> usize
-    requires { ⌜ u < length (now span) ⌝ }
-    ensures { λ r. ⌜ r ≡ getD (now (span .entry)) u 0 ⌝ }
-{
-    wide(span[u])
-}
-
 // Row c is a child of row p that is still there.
 fn is_child(up: &[u16], p: usize, c: usize) -> bool
     requires { ⌜ c < length (now up) ⌝ }
     ensures { λ r. ⌜ r ≡ eqb (getD (now (up .entry)) c 0) p ⌝ }
 {
-    wide(up[c]) == p
+    link(up, c) == p
 }
 
 // Row b is a child of row v that is still there, and row a fits it.
@@ -92,28 +73,28 @@ fn children_fold(code: &[u32], mark: &[u8], span: &[u16], up: &[u16], u: usize, 
     requires { ⌜ Stands (now code) (now mark) (now span) (now up) u × Stands (now code) (now mark) (now span) (now up) v ⌝ }
     ensures { λ r. ⌜ r ≡ belowFold (now (code .entry)) (now (mark .entry)) (now (span .entry)) (now (up .entry)) u v ⌝ }
 {
-    let u_end = u + span_at(span, u);
-    let v_end = v + span_at(span, v);
+    let u_end = u + link(span, u);
+    let v_end = v + link(span, v);
     let mut a = u + 1;
     'child: while a < u_end {
         if is_child(up, u, a) {
             let mut b = v + 1;
             while b < v_end {
                 if fits_child(code, mark, up, v, a, b) {
-                    if span_at(span, a) == 1 {
+                    if link(span, a) == 1 {
                         a += 1;
                         continue 'child;
                     }
                     if children_fold(code, mark, span, up, a, b) {
-                        a += span_at(span, a);
+                        a += link(span, a);
                         continue 'child;
                     }
                 }
-                b += span_at(span, b);
+                b += link(span, b);
             }
             return false;
         }
-        a += span_at(span, a);
+        a += link(span, a);
     }
     true
 }
@@ -134,7 +115,7 @@ fn list_children(span: &[u16], up: &[u16], p: usize, child: &mut [u16]) -> usize
     requires { ⌜ Listable (now span) (now up) p (now child) ⌝ }
     ensures { λ r. ⌜ Listed (now (span .entry)) (now (up .entry)) p (now (child .exit)) r ⌝ }
 {
-    let end = p + span_at(span, p);
+    let end = p + link(span, p);
     let mut c = p + 1;
     let mut k: usize = 0;
     while c < end {
@@ -142,17 +123,9 @@ fn list_children(span: &[u16], up: &[u16], p: usize, child: &mut [u16]) -> usize
         if is_child(up, p, c) {
             k += 1;
         }
-        c += span_at(span, c);
+        c += link(span, c);
     }
     k
-}
-
-// The i-th listed child.
-fn child_at(child: &[u16], i: usize) -> usize
-    requires { ⌜ i < length (now child) ⌝ }
-    ensures { λ r. ⌜ r ≡ getD (now (child .entry)) i 0 ⌝ }
-{
-    wide(child[i])
 }
 
 // The first foldable pair: the place of the first of k listed children, from place `from` on, that folds onto another of them, or k where there is none.
@@ -170,11 +143,11 @@ fn first_foldable(
 {
     let mut i = from;
     'pair: while i < k {
-        let u = child_at(child, i);
+        let u = link(child, i);
         let mut j: usize = 0;
         while j < k {
             if i != j {
-                if folds_onto(code, mark, span, up, u, child_at(child, j)) {
+                if folds_onto(code, mark, span, up, u, link(child, j)) {
                     break 'pair;
                 }
             }
@@ -190,7 +163,7 @@ fn take_out(up: &mut [u16], child: &mut [u16], i: usize, k: usize)
     requires { ⌜ (i < length (now child)) × (k < length (now child)) × (getD (now child) i 0 < length (now up)) ⌝ }
     ensures { λ _. ⌜ TakenOut (now (up .entry)) (now (child .entry)) i k (now (up .exit)) (now (child .exit)) ⌝ }
 {
-    up[child_at(child, i)] = GONE;
+    up[link(child, i)] = GONE;
     child[i] = child[k];
 }
 
@@ -203,7 +176,7 @@ fn fold_children(
     p: usize,
     child: &mut [u16],
 )
-    requires { ⌜ Stands (now code) (now mark) (now span) (now up) p × (256 ≤ length (now child)) ⌝ }
+    requires { ⌜ Stands (now code) (now mark) (now span) (now up) p × (mostNodes ≤ length (now child)) ⌝ }
     ensures { λ _. ⌜ ChildrenFolded (now (code .entry)) (now (mark .entry)) (now (span .entry)) (now (up .entry)) p (now (up .exit)) ⌝ }
 {
     let mut k = list_children(span, up, p, child);
@@ -230,7 +203,7 @@ pub fn fold_rows(
     n: usize,
     child: &mut [u16],
 )
-    requires { ⌜ Whole (now code) (now mark) (now span) (now up) n × (256 ≤ length (now child)) ⌝ }
+    requires { ⌜ Whole (now code) (now mark) (now span) (now up) n × (mostNodes ≤ length (now child)) ⌝ }
     ensures { λ _. ⌜ RowsFolded (now (code .entry)) (now (mark .entry)) (now (span .entry)) (now (up .entry)) n (now (up .exit)) ⌝ }
 {
     let mut p = n;
@@ -288,7 +261,7 @@ pub fn keep_rows(
     let mut j: usize = 0;
     while i < n {
         if up[i] == GONE {
-            i += span_at(span, i);
+            i += link(span, i);
             continue;
         }
         move_row(code, mark, up, i, parent, moved, j);

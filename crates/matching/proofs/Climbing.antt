@@ -1,64 +1,19 @@
 -- Climbing: a way up from row u is laid exactly if u's bit is set at its place and the way from its parent is laid from the place's parent.
 use mathlib.Core.Path.{_≡_, refl, sym, ap, _∙_}
-use mathlib.Core.Logic.{_↔_, _⊎_, inl, inr}
+use mathlib.Core.Logic.{_↔_}
 use mathlib.Core.List.{List}
 use mathlib.Core.Bool.{true, cond}
-use Prim.Native.Nat.{ℕ, suc, _+_, _≤_, _<_}
+use Prim.Native.Nat.{ℕ, _≤_, _<_}
 use native.Mathlib.Omega.{arith}
-use native.Mathlib.Decide.{ℕ-discrete, decLt}
+use native.Mathlib.Decide.{ℕ-discrete}
 use lib.ListN.{length, getD}
 use lib.Dec.{eqb}
 use borrow.Author.Tests.{eq-eqb, ne-eqb}
-use Rattle.meaning.specs.Tree.{Forest, bare, tree, size}
+use Rattle.meaning.specs.Tree.{tree}
 use Rattle.meaning.specs.Matching.{bitAt}
-use Rattle.rows.specs.Rows.{Holds, Hung, below, Rows}
-use Rattle.rows.proofs.Rows.{holds-opens, row-opens, row-kids, row-up}
+use Rattle.rows.specs.Rows.{Rows}
+use Rattle.rows.proofs.Rows.{row-opens, row-up, row-inside, row-least}
 use Rattle.matching.specs.Pair.{Asked, Placed, WayLaid, OneWay, TwoWays}
-
--- among rows that hang below p, from row u on, each one's parent is p or stands at u or behind it
-hung-from : (up span : List ℕ) (p u e : ℕ) (F : Forest ℕ) → Holds span u e F → Hung up p F → (c : ℕ) → u ≤ c → c < e → (getD up c 0 ≡ p) ⊎ (u ≤ getD up c 0)
-hung-from up span p u e bare h g c l m = absurd (omega arith)
-hung-from up span p u e (tree i k r) h g c l m =
-    go (h .0) (ℕ-discrete c i) (decLt c (suc i + size k)) (λ a b. hung-from up span i (suc i) (suc i + size k) k (h .2) (g .1) c a b)
-    (λ a. hung-from up span p (suc i + size k) e r (h .3) (g .2) c a m)
-  where
-    go : u ≡ i → Dec (c ≡ i) → Dec (c < suc i + size k) → (suc i ≤ c → c < suc i + size k → (getD up c 0 ≡ i) ⊎ (suc i ≤ getD up c 0))
-        → (suc i + size k ≤ c → (getD up c 0 ≡ p) ⊎ (suc i + size k ≤ getD up c 0)) → (getD up c 0 ≡ p) ⊎ (u ≤ getD up c 0)
-    go ui (yes q) d f b = inl (rw q (g .0))
-    go ui (no q) (yes d) f b = near (f (omega arith) d)
-      where
-        near : (getD up c 0 ≡ i) ⊎ (suc i ≤ getD up c 0) → (getD up c 0 ≡ p) ⊎ (u ≤ getD up c 0)
-        near (inl a) = inr (omega arith)
-        near (inr a) = inr (omega arith)
-    go ui (no q) (no d) f b = far (b (omega arith))
-      where
-        far : (getD up c 0 ≡ p) ⊎ (suc i + size k ≤ getD up c 0) → (getD up c 0 ≡ p) ⊎ (u ≤ getD up c 0)
-        far (inl a) = inl a
-        far (inr a) = inr (omega arith)
-
--- ------------------------------------------------------------------ rows above a row
-module _ (code mark kids span up : List ℕ) (n : ℕ) (R : Rows code mark kids span up n) where
-  -- a row above u's parent is above u
-  above-up : (u c : ℕ) → 0 < u → u < n → c ≤ getD up u 0 → getD up u 0 < c + getD span c 0 → u < c + getD span c 0
-  above-up u c z l a b = go (row-up code mark kids span up n R u z l) (ℕ-discrete c (getD up u 0))
-    where
-      go : (getD up u 0 < u) × (u + getD span u 0 ≤ getD up u 0 + getD span (getD up u 0) 0) → Dec (c ≡ getD up u 0) → u < c + getD span c 0
-      go (f, g) (yes e) = let o = row-opens span n (R .laid) u l .some in rw (← e) at (let z : u < getD up u 0 + getD span (getD up u 0) 0 = omega arith in z)
-      go (f, g) (no e) =
-          let o = row-opens span n (R .laid) u l .some in
-          let i = row-opens span n (R .laid) c (omega arith) in
-          let j = holds-opens span (suc c) (c + getD span c 0) (below span c) (i .held) (getD up u 0) (omega arith) b .inside in
-          omega arith
-
-  -- a row above u, and not u itself, is above u's parent
-  up-above : (u c : ℕ) → u < n → c < u → u < c + getD span c 0 → c ≤ getD up u 0
-  up-above u c l a b =
-      let q = row-kids code mark kids span up n R c (omega arith) .1 in
-      go (hung-from up span c (suc c) (c + getD span c 0) (q .forest) (q .held) (q .hung) u (omega arith) b)
-    where
-      go : (getD up u 0 ≡ c) ⊎ (suc c ≤ getD up u 0) → c ≤ getD up u 0
-      go (inl e) = omega arith
-      go (inr e) = omega arith
 
 -- ------------------------------------------------------------------ one step up
 module _ (w mark up P : List ℕ) (q : Asked w mark up P) where
@@ -76,8 +31,8 @@ module _ (w mark up P : List ℕ) (q : Asked w mark up P) where
       record {
         here = f u (omega arith) (omega arith);
         rest = λ z c a b.
-            let y = row-up (q .code) mark (q .kids) (q .span) up (q .rows) R u z l .0 in
-            f c (omega arith) (above-up (q .code) mark (q .kids) (q .span) up (q .rows) R u c z l a b);
+            let (y, e) = row-up (q .code) mark (q .kids) (q .span) up (q .rows) R u z l in
+            f c (omega arith) (omega (arith, o, e, row-inside R c (getD up u 0) (omega arith) a b));
       }
 
   steps-way : (h : ℕ → ℕ) (u : ℕ) → u < q .rows → Steps h u → WayLaid w up P (q .span) h u
@@ -87,7 +42,7 @@ module _ (w mark up P : List ℕ) (q : Asked w mark up P) where
       go (yes e) = rw e (s .here)
       go (no e) =
           let y = row-up (q .code) mark (q .kids) (q .span) up (q .rows) R u (omega arith) l .0 in
-          s .rest (omega arith) c (up-above (q .code) mark (q .kids) (q .span) up (q .rows) R u c l (omega arith) b) (omega arith)
+          s .rest (omega arith) c (row-least R c u (omega arith) (omega arith) b) (omega arith)
 
   -- only the places of the (q .rows) up to u matter
   way-same : (h h′ : ℕ → ℕ) (u : ℕ) → u < q .rows → ((c : ℕ) → c ≤ u → h′ c ≡ h c) → WayLaid w up P (q .span) h u → WayLaid w up P (q .span) h′ u

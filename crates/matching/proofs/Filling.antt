@@ -10,6 +10,7 @@ use native.Mathlib.Omega.{arith}
 use native.Mathlib.Numerals.{add-one}
 use native.Mathlib.Decide.{ℕ-discrete, decLt}
 use lib.ListN.{length, getD}
+use Rattle.meaning.specs.Limits.{mostNodes, mostRows}
 use Rattle.meaning.specs.Document.{Doc, Child}
 use Rattle.meaning.specs.Tree.{Forest, bare, tree, Tag, Lays}
 use Rattle.meaning.specs.Matching.{goodTable, docOf, bitAt, OnLabel, LaysAt, CanLie, MatchTable, tableBytes}
@@ -52,7 +53,7 @@ module _ (code span P L : List ℕ) where
   pub record Partly (u c e : ℕ) (w : List ℕ) : Type 0 where
     pub rest : Forest ℕ
     pub held : Holds span c e rest
-    pub left : (v : ℕ) → v < 1024 → ((bitAt w u v ≡ true) × Below rest v) ↔ Lies code span P L u v
+    pub left : (v : ℕ) → v < mostRows → ((bitAt w u v ≡ true) × Below rest v) ↔ Lies code span P L u v
 
   -- the next child takes at least one row and ends with the children
   pub partly-next : (u c e : ℕ) (w : List ℕ) → c < e → Partly u c e w → (1 ≤ getD span c 0) × (c + getD span c 0 ≤ e)
@@ -104,7 +105,7 @@ module _ (code span P L : List ℕ) (good : goodTable P L ≡ true) where
       }
 
   -- what a child c of the row takes away: "every child of u" lies on some child of v
-  parent-laid : (c : ℕ) (w : List ℕ) → ((x : ℕ) → x < 1024 → (bitAt w c x ≡ true) ↔ Lies code span P L c x) → (v : ℕ)
+  parent-laid : (c : ℕ) (w : List ℕ) → ((x : ℕ) → x < mostRows → (bitAt w c x ≡ true) ↔ Lies code span P L c x) → (v : ℕ)
       → ParentOf w c P (length P) v ↔ ((x : ℕ) × Child (docOf P L) v x × OnLabel (docOf P L) (tagAt code [] c) x × Below code span P L (below span c) x)
   parent-laid c w row v = (to, from)
     where
@@ -115,26 +116,26 @@ module _ (code span P L : List ℕ) (good : goodTable P L ≡ true) where
       from (x, ch, f, y) =
           let few = G .few in let k = child-doc P L G v x .0 ch in (x, k .0, k .1, row x (omega (arith, k .1)) .1 (ch .inside, f, y), k .2)
 
-  pub partly-turn : (u c e : ℕ) → c < e → (w b : List ℕ) → ((x : ℕ) → x < 1024 → (bitAt w c x ≡ true) ↔ Lies code span P L c x)
+  pub partly-turn : (u c e : ℕ) → c < e → (w b : List ℕ) → ((x : ℕ) → x < mostRows → (bitAt w c x ≡ true) ↔ Lies code span P L c x)
       → RowIs w u (λ v. (bitAt w u v ≡ true) × ParentOf w c P (length P) v) b → Partly code span P L u c e w → Partly code span P L u (c + getD span c 0) e b
   unfolding mapT
   partly-turn u c e l w b row r p = go (p .rest) (p .held) (p .left)
     where
-      go : (F : Forest ℕ) → Holds span c e F → ((v : ℕ) → v < 1024 → ((bitAt w u v ≡ true) × Below code span P L F v) ↔ Lies code span P L u v)
+      go : (F : Forest ℕ) → Holds span c e F → ((v : ℕ) → v < mostRows → ((bitAt w u v ≡ true) × Below code span P L F v) ↔ Lies code span P L u v)
           → Partly code span P L u (c + getD span c 0) e b
       go bare h f = absurd (omega arith)
       go (tree i k t) h f =
           let o = holds-first span c e i k t h in
           record { rest = t; held = o .2; left = λ v lv. (λ (x, y). f v lv .0 (to v lv (o .0) (h .0) x y), λ y. from v lv (o .0) (h .0) (f v lv .1 y)) }
         where
-          to : (v : ℕ) → v < 1024 → below span c ≡ k → c ≡ i → bitAt b u v ≡ true → Below code span P L t v → (bitAt w u v ≡ true) × Below code span P L (tree i k t) v
+          to : (v : ℕ) → v < mostRows → below span c ≡ k → c ≡ i → bitAt b u v ≡ true → Below code span P L t v → (bitAt w u v ≡ true) × Below code span P L (tree i k t) v
           to v lv ek ei x y = let q = r .bits v lv .0 x in (q .0, (rw (← ek, ← ei) (parent-laid c w row v .0 (q .1)), y))
 
-          from : (v : ℕ) → v < 1024 → below span c ≡ k → c ≡ i → (bitAt w u v ≡ true) × Below code span P L (tree i k t) v → (bitAt b u v ≡ true) × Below code span P L t v
+          from : (v : ℕ) → v < mostRows → below span c ≡ k → c ≡ i → (bitAt w u v ≡ true) × Below code span P L (tree i k t) v → (bitAt b u v ≡ true) × Below code span P L t v
           from v lv ek ei (x, z) = (r .bits v lv .1 (x, parent-laid c w row v .1 (rw (← ek, ← ei) at (z .0))), z .1)
 
   -- no child is left, or no node: the row is done
-  pub partly-all : (u c e : ℕ) → e ≤ c → (w : List ℕ) → Partly code span P L u c e w → (v : ℕ) → v < 1024 → (bitAt w u v ≡ true) ↔ Lies code span P L u v
+  pub partly-all : (u c e : ℕ) → e ≤ c → (w : List ℕ) → Partly code span P L u c e w → (v : ℕ) → v < mostRows → (bitAt w u v ≡ true) ↔ Lies code span P L u v
   unfolding mapT
   partly-all u c e l w p v lv = go (p .rest) (p .held) (p .left v lv)
     where
@@ -142,7 +143,7 @@ module _ (code span P L : List ℕ) (good : goodTable P L ≡ true) where
       go bare h f = (λ t. f .0 (t, tt), λ y. f .1 y .0)
       go (tree i k r) h f = let z = size-holds span c e (tree i k r) h in absurd (omega arith)
 
-  pub partly-clear : (u c e : ℕ) (w : List ℕ) → RowClear w u → Partly code span P L u c e w → (v : ℕ) → v < 1024 → (bitAt w u v ≡ true) ↔ Lies code span P L u v
+  pub partly-clear : (u c e : ℕ) (w : List ℕ) → RowClear w u → Partly code span P L u c e w → (v : ℕ) → v < mostRows → (bitAt w u v ≡ true) ↔ Lies code span P L u v
   partly-clear u c e w z p v lv = (λ t. true-false (sym t ∙ z v lv), λ y. p .left v lv .1 y .0)
 
   -- a child of row u lies nowhere: row u stays clear
@@ -152,7 +153,7 @@ module _ (code span P L : List ℕ) (good : goodTable P L ≡ true) where
       nowhere : {A : Type 0} → (x : ℕ) × Lies code span P L c x → A
       nowhere (x, y) =
           let few = G .few in
-          let lx : x < 1024 = let i = in-doc P L G x .0 (y .0) in omega arith in
+          let lx : x < mostRows = let i = in-doc P L G x .0 (y .0) in omega arith in
           true-false (sym (q .behind c x (omega arith) m lx .1 y) ∙ z x lx)
 
   -- the rows of w behind row u are still there when only row u changed
@@ -160,7 +161,7 @@ module _ (code span P L : List ℕ) (good : goodTable P L ≡ true) where
   rows-kept n u w b o r c v l m lv = iff-same (other-row w b u c v o lv (λ e. omega arith)) (r c v l m lv)
 
   -- a bit that is set stands for a node
-  pub rows-inside : (n u : ℕ) (w : List ℕ) → RowsFrom code span P L n u w → (c : ℕ) → u ≤ c → c < n → (x : ℕ) → x < 1024 → bitAt w c x ≡ true → x < length P
+  pub rows-inside : (n u : ℕ) (w : List ℕ) → RowsFrom code span P L n u w → (c : ℕ) → u ≤ c → c < n → (x : ℕ) → x < mostRows → bitAt w c x ≡ true → x < length P
   rows-inside n u w r c l m x lx t = in-doc P L G x .0 (r c x l m lx .0 t .0)
 
   -- ---------------------------------------------------------------- the whole table
@@ -206,7 +207,7 @@ module _ (code span P L : List ℕ) (good : goodTable P L ≡ true) where
         was y (inl d) = inl (omega arith)
         was y (inr d) = inr d
 
-        row : (c v : ℕ) → u - 1 ≤ c → c < n → v < 1024 → Dec (c ≡ u - 1) → (bitAt b c v ≡ true) ↔ Lies code span P L c v
+        row : (c v : ℕ) → u - 1 ≤ c → c < n → v < mostRows → Dec (c ≡ u - 1) → (bitAt b c v ≡ true) ↔ Lies code span P L c v
         row c v lc m lv (yes e) = rw e (r .bits v lv)
         row c v lc m lv (no e) = iff-same (other-row w b (u - 1) c v (r .only) lv e) (f .behind c v (omega arith) m lv)
 
@@ -214,7 +215,7 @@ module _ (code span P L : List ℕ) (good : goodTable P L ≡ true) where
     pub filled-all : (w : List ℕ) (u : ℕ) → u ≡ 0 → Filled w₀ code span P L n u w → (mark : List ℕ) → MatchTable (treeRows code mark span n) (docOf P L) w₀ w
     filled-all w u z f mark = record { same = f .same; bits = λ c v lc lv. bits c v lc lv (decLt c n); later = f .later }
       where
-        bits : (c v : ℕ) → c < 256 → v < 1024 → Dec (c < n) → (bitAt w c v ≡ true) ↔ CanLie (treeRows code mark span n) c (docOf P L) v
+        bits : (c v : ℕ) → c < mostNodes → v < mostRows → Dec (c < n) → (bitAt w c v ≡ true) ↔ CanLie (treeRows code mark span n) c (docOf P L) v
         bits c v lc lv (yes l) =
             let b = f .behind c v (omega arith) l lv in
             let k = can-lie code mark span n (q .laid) (docOf P L) c v l in (

@@ -3,19 +3,19 @@ use mathlib.Core.Path.{_≡_, refl, sym, _∙_}
 use mathlib.Core.Logic.{_↔_, _⊎_, inl, inr}
 use mathlib.Core.List.{List}
 use mathlib.Core.Bool.{Bool, true, false, _&&_}
-use Prim.Native.Nat.{ℕ, zero, suc, _+_, _-_, _*_, _/_, _%_, _^_, _≤_, _<_}
+use Prim.Native.Nat.{ℕ, zero, suc, _+_, _-_, _*_, _/_, _≤_, _<_}
 use native.Mathlib.Omega.{arith}
 use native.Mathlib.Nat.{div-eq-of-lt, lt-of-lt-of-le}
 use native.Mathlib.Decide.{ℕ-discrete, decLt}
 use lib.ListN.{length, getD, set, length-set}
 use lib.Seq.{getD-set-same, getD-set-other}
-use lib.Bits.{bitAnd}
 use lib.Dec.{eqb}
 use lib.Pow.{pow-mono}
-use borrow.Author.Tests.{eqb-true, eq-eqb, ne-eqb}
+use borrow.Author.Tests.{eqb-true, eq-eqb}
+use Rattle.meaning.specs.Limits.{mostRows}
 use Rattle.meaning.specs.Matching.{bitAt}
 use Rattle.bits.specs.Bits.{bitOf, Met}
-use Rattle.bits.proofs.Bits.{and-one, zero-bit, all-bits, half-bit, byte-bit}
+use Rattle.bits.proofs.Bits.{zero-bit, all-bits, half-bit, byte-bit}
 use Rattle.matching.specs.Table.{FromByte, Upto, ParentOf, Added, RowIs, RowInside}
 use Rattle.matching.proofs.Labels.{true-false, iff-same}
 
@@ -52,19 +52,11 @@ added-none h Q f = record { same = refl; flags = λ v l. (λ t. inl t, was v) }
     was v (inr y) = absurd (f v y)
 
 -- ------------------------------------------------------------------ one bit
-pub bit-set : (b k : ℕ) → bitAnd (b / 2 ^ k) 1 ≡ 1 → bitOf b k ≡ true
-unfolding bitOf
-bit-set b k e = eq-eqb (b / 2 ^ k % 2) 1 (sym (and-one (b / 2 ^ k)) ∙ e)
+pub added-set : (b k p : ℕ) (h h′ : List ℕ) → bitOf b k ≡ true → Added h (λ v. p ≡ v) h′ → Added h (λ v. (bitOf b k ≡ true) × (p ≡ v)) h′
+added-set b k p h h′ e a = added-same h h′ (λ v. p ≡ v) (λ v. (bitOf b k ≡ true) × (p ≡ v)) (λ v. (λ q. (e, q), λ (_, q). q)) a
 
-bit-unset : (b k : ℕ) → (bitAnd (b / 2 ^ k) 1 ≡ 1 → ⊥) → bitOf b k ≡ false
-unfolding bitOf
-bit-unset b k ne = ne-eqb (b / 2 ^ k % 2) 1 (λ e. ne (and-one (b / 2 ^ k) ∙ e))
-
-pub added-set : (b k p : ℕ) (h h′ : List ℕ) → bitAnd (b / 2 ^ k) 1 ≡ 1 → Added h (λ v. p ≡ v) h′ → Added h (λ v. (bitOf b k ≡ true) × (p ≡ v)) h′
-added-set b k p h h′ e a = added-same h h′ (λ v. p ≡ v) (λ v. (bitOf b k ≡ true) × (p ≡ v)) (λ v. (λ q. (bit-set b k e, q), λ (_, q). q)) a
-
-pub added-not : (b k p : ℕ) (h : List ℕ) → (bitAnd (b / 2 ^ k) 1 ≡ 1 → ⊥) → Added h (λ v. (bitOf b k ≡ true) × (p ≡ v)) h
-added-not b k p h ne = added-none h (λ v. (bitOf b k ≡ true) × (p ≡ v)) (λ v (t, _). true-false (sym t ∙ bit-unset b k ne))
+pub added-not : (b k p : ℕ) (h : List ℕ) → bitOf b k ≡ false → Added h (λ v. (bitOf b k ≡ true) × (p ≡ v)) h
+added-not b k p h e = added-none h (λ v. (bitOf b k ≡ true) × (p ≡ v)) (λ v (t, _). true-false (sym t ∙ e))
 
 -- ------------------------------------------------------------------ one byte
 pub upto-none : (Q : ℕ → ℕ → Type 0) (h : List ℕ) → Added h (Upto Q 0) h
@@ -73,7 +65,7 @@ upto-none Q h = added-none h (Upto Q 0) (λ v (k, l, _). omega arith)
 pub upto-more : (Q : ℕ → ℕ → Type 0) (h₀ h h′ : List ℕ) (e : ℕ) → Added h₀ (Upto Q e) h → Added h (Q e) h′ → Added h₀ (Upto Q (e + 1)) h′
 upto-more Q h₀ h h′ e a b = record { same = b .same ∙ a .same; flags = λ v l. (λ t. to v l (b .flags v l .0 t), λ y. b .flags v l .1 (from v l y)) }
   where
-    to : (v : ℕ) → v < 1024 → (getD h v 0 ≡ 1) ⊎ Q e v → (getD h₀ v 0 ≡ 1) ⊎ Upto Q (e + 1) v
+    to : (v : ℕ) → v < mostRows → (getD h v 0 ≡ 1) ⊎ Q e v → (getD h₀ v 0 ≡ 1) ⊎ Upto Q (e + 1) v
     to v l (inr y) = inr (e, omega arith, y)
     to v l (inl t) = go (a .flags v l .0 t)
       where
@@ -81,7 +73,7 @@ upto-more Q h₀ h h′ e a b = record { same = b .same ∙ a .same; flags = λ 
         go (inl y) = inl y
         go (inr (k, lk, y)) = inr (k, omega arith, y)
 
-    from : (v : ℕ) → v < 1024 → (getD h₀ v 0 ≡ 1) ⊎ Upto Q (e + 1) v → (getD h v 0 ≡ 1) ⊎ Q e v
+    from : (v : ℕ) → v < mostRows → (getD h₀ v 0 ≡ 1) ⊎ Upto Q (e + 1) v → (getD h v 0 ≡ 1) ⊎ Q e v
     from v l (inl t) = inl (a .flags v l .1 (inl t))
     from v l (inr (k, lk, y)) = last (ℕ-discrete k e)
       where
@@ -158,7 +150,7 @@ module _ (w : List ℕ) (c : ℕ) (P : List ℕ) (inside : RowInside w c P) wher
       → Added h (FromByte P (getD w (128 * c + i) 0) (8 * i)) h′ → Added h₀ (ParentOf w c P (8 * (i + 1))) h′
   added-byte h₀ h h′ i li lb a b = record { same = b .same ∙ a .same; flags = λ v l. (λ e. to v l (b .flags v l .0 e), λ y. b .flags v l .1 (from v l y)) }
     where
-      to : (v : ℕ) → v < 1024 → (getD h v 0 ≡ 1) ⊎ FromByte P (getD w (128 * c + i) 0) (8 * i) v → (getD h₀ v 0 ≡ 1) ⊎ ParentOf w c P (8 * (i + 1)) v
+      to : (v : ℕ) → v < mostRows → (getD h v 0 ≡ 1) ⊎ FromByte P (getD w (128 * c + i) 0) (8 * i) v → (getD h₀ v 0 ≡ 1) ⊎ ParentOf w c P (8 * (i + 1)) v
       to v l (inr (k, e, p)) =
           let lk = byte-bits (getD w (128 * c + i) 0) k lb e in inr (8 * i + k, omega arith, omega arith, byte-bit w c i k lk ∙ e, p)
       to v l (inl e) = go (a .flags v l .0 e)
@@ -167,7 +159,7 @@ module _ (w : List ℕ) (c : ℕ) (P : List ℕ) (inside : RowInside w c P) wher
           go (inl y) = inl y
           go (inr (x, z, m, y, p)) = inr (x, z, omega arith, y, p)
 
-      from : (v : ℕ) → v < 1024 → (getD h₀ v 0 ≡ 1) ⊎ ParentOf w c P (8 * (i + 1)) v → (getD h v 0 ≡ 1) ⊎ FromByte P (getD w (128 * c + i) 0) (8 * i) v
+      from : (v : ℕ) → v < mostRows → (getD h₀ v 0 ≡ 1) ⊎ ParentOf w c P (8 * (i + 1)) v → (getD h v 0 ≡ 1) ⊎ FromByte P (getD w (128 * c + i) 0) (8 * i) v
       from v l (inl e) = inl (a .flags v l .1 (inl e))
       from v l (inr (x, z, m, e, p)) = go (decLt x (8 * i))
         where
@@ -190,18 +182,18 @@ module _ (w : List ℕ) (c : ℕ) (P : List ℕ) (inside : RowInside w c P) wher
       from v (inr (x, z, n, e, p)) = inr (x, z, omega arith, e, p)
 
 -- what row u keeps
-pub kept : (w b h₀ h : List ℕ) (u e : ℕ) (Q : ℕ → Type 0) → ((i : ℕ) → i < 1024 → getD h₀ i 0 ≡ 0) → ((v : ℕ) → v < 1024 → bitAt w u v ≡ true → v < e) → Added h₀ Q h → Met w u h e b
+pub kept : (w b h₀ h : List ℕ) (u e : ℕ) (Q : ℕ → Type 0) → ((i : ℕ) → i < mostRows → getD h₀ i 0 ≡ 0) → ((v : ℕ) → v < mostRows → bitAt w u v ≡ true → v < e) → Added h₀ Q h → Met w u h e b
     → RowIs w u (λ v. (bitAt w u v ≡ true) × Q v) b
 kept w b h₀ h u e Q z inside a m = record { only = m .only; bits = λ v l. go v l (decLt v e) }
   where
-    added : (v : ℕ) → v < 1024 → (getD h₀ v 0 ≡ 1) ⊎ Q v → Q v
+    added : (v : ℕ) → v < mostRows → (getD h₀ v 0 ≡ 1) ⊎ Q v → Q v
     added v l (inl y) = let x = z v l in absurd (omega arith)
     added v l (inr y) = y
 
-    low : (v : ℕ) → v < 1024 → (x : Bool) → ((x && eqb (getD h v 0) 1) ≡ true) ↔ ((x ≡ true) × Q v)
+    low : (v : ℕ) → v < mostRows → (x : Bool) → ((x && eqb (getD h v 0) 1) ≡ true) ↔ ((x ≡ true) × Q v)
     low v l true = (λ t. (refl, added v l (a .flags v l .0 (eqb-true (getD h v 0) 1 t))), λ (_, y). eq-eqb (getD h v 0) 1 (a .flags v l .1 (inr y)))
     low v l false = (λ t. true-false (sym t), λ (t, _). t)
 
-    go : (v : ℕ) → v < 1024 → Dec (v < e) → (bitAt b u v ≡ true) ↔ ((bitAt w u v ≡ true) × Q v)
+    go : (v : ℕ) → v < mostRows → Dec (v < e) → (bitAt b u v ≡ true) ↔ ((bitAt w u v ≡ true) × Q v)
     go v l (yes d) = iff-same (m .both v d) (low v l (bitAt w u v))
     go v l (no d) = (λ t. absurd (d (inside v l (sym (m .behind v (omega arith) l) ∙ t))), λ (t, _). absurd (d (inside v l t)))

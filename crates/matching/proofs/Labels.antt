@@ -9,6 +9,7 @@ use native.Mathlib.Decide.{ℕ-discrete, decLt}
 use lib.ListN.{length, getD, set}
 use lib.Dec.{eqb}
 use borrow.Author.Tests.{eqb-true, eq-eqb, ne-eqb}
+use Rattle.meaning.specs.Limits.{mostRows}
 use Rattle.meaning.specs.Matching.{bitAt}
 use Rattle.bits.specs.Bits.{bitOf, OnlyRow, BitSet, Sifted}
 use Rattle.bits.proofs.Bits.{all-bits, store-here, store-other}
@@ -62,7 +63,7 @@ row-byte u P i b o li lb f t =
         iff-same (store-here b u i o li lb v e) (rw z at (f (v % 8) (omega arith)))
     low v l (no e) = iff-same (store-other b u i o li lb v e) (t .low v (omega arith))
 
-pub row-node-on : (w : List ℕ) (u : ℕ) (P : ℕ → Type 0) (v : ℕ) (b : List ℕ) → v < 1024 → P v → BitSet w u v b → RowUpTo w u P v → RowUpTo b u P (v + 1)
+pub row-node-on : (w : List ℕ) (u : ℕ) (P : ℕ → Type 0) (v : ℕ) (b : List ℕ) → v < mostRows → P v → BitSet w u v b → RowUpTo w u P v → RowUpTo b u P (v + 1)
 row-node-on w u P v b lv p s t =
     record { low = λ x l. low x l (ℕ-discrete x v); high = λ x l m. s .other x m (λ e. omega arith) ∙ t .high x (omega arith) m }
   where
@@ -70,7 +71,7 @@ row-node-on w u P v b lv p s t =
     low x l (yes e) = rw e (λ _. p, λ _. s .here)
     low x l (no e) = iff-same (s .other x (omega arith) e) (t .low x (omega arith))
 
-pub row-node-off : (w : List ℕ) (u : ℕ) (P : ℕ → Type 0) (v : ℕ) → v < 1024 → (P v → ⊥) → RowUpTo w u P v → RowUpTo w u P (v + 1)
+pub row-node-off : (w : List ℕ) (u : ℕ) (P : ℕ → Type 0) (v : ℕ) → v < mostRows → (P v → ⊥) → RowUpTo w u P v → RowUpTo w u P (v + 1)
 row-node-off w u P v lv p t = record { low = λ x l. low x l (ℕ-discrete x v); high = λ x l m. t .high x (omega arith) m }
   where
     low : (x : ℕ) → x < v + 1 → Dec (x ≡ v) → (bitAt w u x ≡ true) ↔ P x
@@ -80,6 +81,6 @@ row-node-off w u P v lv p t = record { low = λ x l. low x l (ℕ-discrete x v);
 pub row-all : (w : List ℕ) (u code : ℕ) (L : List ℕ) (e : ℕ) (b : List ℕ) → length L ≤ e → OnlyRow w u b → RowUpTo b u (Suits code L) e → RowIs w u (Suits code L) b
 row-all w u code L e b l o t = record { only = o; bits = λ v lv. go v lv (decLt v e) }
   where
-    go : (v : ℕ) → v < 1024 → Dec (v < e) → (bitAt b u v ≡ true) ↔ Suits code L v
+    go : (v : ℕ) → v < mostRows → Dec (v < e) → (bitAt b u v ≡ true) ↔ Suits code L v
     go v lv (yes d) = t .low v d
     go v lv (no d) = (λ x. true-false (sym x ∙ t .high v (omega arith) lv), λ (s, _). absurd (omega arith))

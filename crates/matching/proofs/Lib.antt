@@ -2,7 +2,6 @@ pub mod Tables
 pub mod Labels
 pub mod Kinship
 pub mod Filling
-pub mod Marks
 pub mod Climbing
 pub mod Selecting
 pub mod Pair

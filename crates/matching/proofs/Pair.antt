@@ -6,14 +6,15 @@ use mathlib.Core.Bool.{Bool, true, false}
 use Prim.Native.Nat.{ℕ, _≤_, _<_}
 use native.Mathlib.Omega.{arith}
 use lib.ListN.{length, getD}
+use Rattle.meaning.specs.Limits.{mostNodes, mostRows}
 use Rattle.meaning.specs.Tree.{Takes}
-use Rattle.meaning.specs.Matching.{docOf, bitAt}
-use Rattle.rows.specs.Rows.{treeRows}
+use Rattle.meaning.specs.Matching.{docOf, bitAt, tableBytes}
+use Rattle.rows.specs.Rows.{Borne, FirstRow, treeRows}
 use Rattle.rows.proofs.Rows.{row-up}
-use Rattle.matching.specs.Pair.{FirstRow, Asked, OneWay, TwoWays}
+use Rattle.rows.proofs.Marks.{single-borne, single-first}
+use Rattle.matching.specs.Pair.{Asked, OneWay, TwoWays}
 use Rattle.matching.proofs.Tables.{good-table}
 use Rattle.matching.proofs.Labels.{true-false}
-use Rattle.matching.proofs.Marks.{first-s, first-d}
 use Rattle.matching.proofs.Climbing.{one-top, one-step, two-swap, two-meet, two-step}
 use Rattle.matching.proofs.Selecting.{takes-two-ways}
 
@@ -28,9 +29,9 @@ never f n = (λ e. true-false (sym e), λ a. absurd (n (f .0 a)))
 
 -- what is known of the rows and the nodes that a step is made from
 pub record Bounds (w up P : List ℕ) (u x : ℕ) : Type 0 where
-  pub row : u < 256
-  pub node : x < 1024
-  pub room : 32768 ≤ length w
+  pub row : u < mostNodes
+  pub node : x < mostRows
+  pub room : tableBytes ≤ length w
   pub link : u < length up
 
 -- u's bit is set at x, and x is not the root
@@ -38,6 +39,13 @@ abbrev Step : List ℕ → ℕ → ℕ → Type 0
 Step w u x = (0 < x) × (bitAt w u x ≡ true)
 
 module _ (w mark up P : List ℕ) (q : Asked w mark up P) where
+  -- some row is s, some row is d
+  pub borne-s : Borne mark 0
+  borne-s = single-borne mark 0 (q .s) (q .tree .marks)
+
+  pub borne-d : Borne mark 1
+  borne-d = single-borne mark 1 (q .d) (q .tree .marks)
+
   pub bounds : (u x : ℕ) → u < q .rows → x < length P → Bounds w up P u x
   bounds u x l lx =
       let few = q .tree .few in
@@ -81,9 +89,9 @@ abbrev pub Meeting : List ℕ → List ℕ → List ℕ → List ℕ → ℕ →
 Meeting w mark up P m n u x v y =
     (q : Asked w mark up P) → (u < q .rows) × (v < q .rows) × (Selects w mark up P m n q ↔ TwoWays w up P (q .span) u x v y)
 
-pub meeting-none : (w mark up P : List ℕ) (m n r r′ : ℕ) → FirstRow mark 1 r → FirstRow mark 2 r′ → Meeting w mark up P m n r m r′ n
+pub meeting-none : (w mark up P : List ℕ) (m n r r′ : ℕ) → FirstRow mark 0 r → FirstRow mark 1 r′ → Meeting w mark up P m n r m r′ n
 meeting-none w mark up P m n r r′ a b q =
-    rw (first-s w mark up P q r a, first-d w mark up P q r′ b) (q .s .inside, q .d .inside, takes-two-ways w mark up P q m n)
+    rw (single-first mark 0 (q .s) a, single-first mark 1 (q .d) b) (q .s .inside, q .d .inside, takes-two-ways w mark up P q m n)
 
 meeting-swap : (w mark up P : List ℕ) (m n u x v y : ℕ) → Meeting w mark up P m n u x v y → Meeting w mark up P m n v y u x
 meeting-swap w mark up P m n u x v y k q =

@@ -16,9 +16,10 @@ use Rattle.meaning.specs.Tree.{Forest, bare, tree, Tag, size, Under, Lays, Mark
 use Rattle.meaning.specs.Normal.{holds, inTree, eitherIn}
 use Rattle.meaning.specs.Matching.{docOf, bitAt, OnLabel, LaysAt}
 use Rattle.theory.proofs.Pair.{OnlyIf, Ways, lays-ways}
-use Rattle.rows.specs.Rows.{tagAt, below, shape, mapT, treeRows, Holds, Hung, noRow, Rows}
+use Rattle.rows.specs.Rows.{tagAt, Single, below, shape, mapT, treeRows, Holds, Hung, noRow, Rows}
 use Rattle.rows.proofs.Rows.{size-holds, holds-first, row-up, Top, rows-top}
-use Rattle.matching.specs.Pair.{Single, Asked, Placed, WayLaid, TwoWays}
+use Rattle.rows.proofs.Marks.{single-here, single-only}
+use Rattle.matching.specs.Pair.{Asked, Placed, WayLaid, TwoWays}
 use Rattle.matching.proofs.Tables.{Good, good-table, in-doc, child-doc}
 use Rattle.matching.proofs.Labels.{true-false}
 use Rattle.matching.proofs.Filling.{can-lie}
@@ -154,8 +155,8 @@ module _ (w mark up P : List ℕ) (q : Asked w mark up P) (m n : ℕ) where
       go : (h : ℕ → ℕ) × ((i : ℕ) → 0 ≤ i → i < q .rows → Suited i (h i) × Joined noRow 0 none h i) → TwoWays w up P (q .span) (q .s .row) m (q .d .row) n
       go (h, f) = (
         h,
-        mark-on (tag (q .s .row) .src) (h (q .s .row)) m (q .s .here) (f (q .s .row) (omega arith) (q .s .inside) .0 .0),
-        mark-on (tag (q .d .row) .dst) (h (q .d .row)) n (q .d .here) (f (q .d .row) (omega arith) (q .d .inside) .0 .1),
+        mark-on (tag (q .s .row) .src) (h (q .s .row)) m (single-here (q .s)) (f (q .s .row) (omega arith) (q .s .inside) .0 .0),
+        mark-on (tag (q .d .row) .dst) (h (q .d .row)) n (single-here (q .d)) (f (q .d .row) (omega arith) (q .d .inside) .0 .1),
         spread-way h f (q .s .row) (q .s .inside),
         spread-way h f (q .d .row) (q .d .inside),
       )
@@ -170,7 +171,7 @@ module _ (w mark up P : List ℕ) (q : Asked w mark up P) (m n : ℕ) where
         part : (p : Tag → Bool) → inTree p (tag i) (mapT tag k) ≡ true → (S : Single (λ u. p (tag u)) (q .rows)) → WayLaid w up P (q .span) h (S .row) → Placed w up P h i
         part p e S f =
             let (j, a, b, y) = in-row p tag (q .span) i (i + getD (q .span) i 0) k hk e in
-            let r : j ≡ S .row = S .only j (omega arith) y in
+            let r : j ≡ S .row = single-only S j (omega arith) y in
             f i (omega arith) (omega arith)
 
         go : (b : Bool) → inTree (λ a. a .src) (tag i) (mapT tag k) ≡ b → (b || inTree (λ a. a .dst) (tag i) (mapT tag k)) ≡ true → Placed w up P h i
@@ -181,7 +182,7 @@ module _ (w mark up P : List ℕ) (q : Asked w mark up P) (m n : ℕ) where
     mark-lies p S x e i l = go (p i) refl
       where
         go : (b : Bool) → p i ≡ b → MarkOn b (h i) x
-        go true y = let z = S .only i l y in rw z e
+        go true y = let z = single-only S i l y in rw z e
         go false y = tt
 
     gather : (p c e : ℕ) (F : Forest ℕ) (v : Option ℕ) → Holds (q .span) c e F → Hung up p F → e ≤ q .rows

@@ -10,6 +10,7 @@ use lib.ListN.{length, getD, drop, drop-of-length-le}
 use lib.Seq.{drop-cons}
 use lib.Dec.{leb, eqb, ltb, leb·suc-suc}
 use borrow.Author.Tests.{leb-true, le-leb, lt-leb, eqb-true, not-true, not-false}
+use Rattle.meaning.specs.Limits.{mostRows}
 use Rattle.meaning.specs.Number.{largestLabel}
 use Rattle.meaning.specs.Document.{DocRow, Child, docRow, labelOf, In}
 use Rattle.meaning.specs.Matching.{parentOk, rowsOk, goodTable, docOf}
@@ -22,8 +23,8 @@ both true b e = (refl, e)
 both false b e = never cc
 
 -- ------------------------------------------------------------------ one row
-pub row-label : (x p l : ℕ) → 65535 < l → false ≡ (parentOk x p && leb l largestLabel)
-row-label x p l h = sym (rw (lt-leb l 65535 h) (no (parentOk x p)))
+pub row-label : (x p l : ℕ) → largestLabel < l → false ≡ (parentOk x p && leb l largestLabel)
+row-label x p l h = sym (rw (lt-leb l largestLabel h) (no (parentOk x p)))
   where
     no : (t : Bool) → (t && false) ≡ false
     no true = refl
@@ -42,12 +43,12 @@ pub good-too : (good r row : Bool) → r ≡ row → not r ≡ false → good �
 good-too true r row e t = sym (not-false r t) ∙ e
 good-too false r row e t = refl
 
-pub row-root : (x p l : ℕ) → l ≤ 65535 → x ≡ 0 → eqb p 0 ≡ (parentOk x p && leb l largestLabel)
-row-root x p l h e = sym (rw (le-leb l 65535 h, e) (and-true (eqb p 0)))
+pub row-root : (x p l : ℕ) → l ≤ largestLabel → x ≡ 0 → eqb p 0 ≡ (parentOk x p && leb l largestLabel)
+row-root x p l h e = sym (rw (le-leb l largestLabel h, e) (and-true (eqb p 0)))
 
-pub row-lower : (x p l : ℕ) → l ≤ 65535 → (x ≡ 0 → ⊥) → ltb p x ≡ (parentOk x p && leb l largestLabel)
+pub row-lower : (x p l : ℕ) → l ≤ largestLabel → (x ≡ 0 → ⊥) → ltb p x ≡ (parentOk x p && leb l largestLabel)
 row-lower zero p l h e = absurd (e refl)
-row-lower (suc x) p l h e = sym (rw (le-leb l 65535 h) (and-true (leb p x) ∙ sym (leb·suc-suc p x)))
+row-lower (suc x) p l h e = sym (rw (le-leb l largestLabel h) (and-true (leb p x) ∙ sym (leb·suc-suc p x)))
 
 -- ------------------------------------------------------------------ the check from row x on
 rows-length : (n : ℕ) (ps ls : List ℕ) → rowsOk n ps ls ≡ true → length ls ≡ length ps
@@ -66,9 +67,9 @@ module _ (P L : List ℕ) where
   unfolding goodTable
   table-none e = sym (rw e)
 
-  pub table-many : 1024 < length P → false ≡ goodTable P L
+  pub table-many : mostRows < length P → false ≡ goodTable P L
   unfolding goodTable
-  table-many h = sym (rw (lt-leb (length P) 1024 h) (no (leb 1 (length P))))
+  table-many h = sym (rw (lt-leb (length P) mostRows h) (no (leb 1 (length P))))
     where
       no : (t : Bool) → ((t && false) && rowsOk 0 P L) ≡ false
       no true = refl
@@ -76,16 +77,16 @@ module _ (P L : List ℕ) where
 
   pub table-uneven : (length L ≡ length P → ⊥) → false ≡ goodTable P L
   unfolding goodTable
-  table-uneven ne = go (leb 1 (length P) && leb (length P) 1024) (rowsOk 0 P L) refl
+  table-uneven ne = go (leb 1 (length P) && leb (length P) mostRows) (rowsOk 0 P L) refl
     where
       go : (t r : Bool) → rowsOk 0 P L ≡ r → false ≡ (t && r)
       go true true e = absurd (ne (rows-length 0 P L e))
       go true false e = refl
       go false r e = refl
 
-  checked-none : (length P ≡ 0 → ⊥) → length P ≤ 1024 → Checked 0
+  checked-none : (length P ≡ 0 → ⊥) → length P ≤ mostRows → Checked 0
   unfolding goodTable
-  checked-none a b = let z : 1 ≤ length P = omega arith in rw (le-leb 1 (length P) z, le-leb (length P) 1024 b)
+  checked-none a b = let z : 1 ≤ length P = omega arith in rw (le-leb 1 (length P) z, le-leb (length P) mostRows b)
 
   checked-more : (x : ℕ) → x < length P → x < length L → Checked x → (parentOk x (getD P x 0) && leb (getD L x 0) largestLabel) ≡ true → Checked (x + 1)
   unfolding rowsOk
@@ -103,7 +104,7 @@ module _ (P L : List ℕ) where
   abbrev pub SoFar : Bool → ℕ → Type 0
   SoFar good x = (good ≡ true → Checked x) × (good ≡ false → false ≡ goodTable P L)
 
-  pub sofar-none : (length P ≡ 0 → ⊥) → length P ≤ 1024 → SoFar true 0
+  pub sofar-none : (length P ≡ 0 → ⊥) → length P ≤ mostRows → SoFar true 0
   sofar-none a b = (λ _. checked-none a b, λ e. true-false e)
 
   pub sofar-more : (good d : Bool) (x : ℕ) → x < length P → x < length L → SoFar good x → d ≡ (good && (parentOk x (getD P x 0) && leb (getD L x 0) largestLabel))
@@ -152,7 +153,7 @@ rows-parent n (p ∷ P) (l ∷ L) e (suc x) h =
 -- what a good table says: its length, and that every parent number is smaller than the node's own
 pub record Good (P L : List ℕ) : Type 0 where
   pub some : 1 ≤ length P
-  pub few : length P ≤ 1024
+  pub few : length P ≤ mostRows
   pub labels : length L ≡ length P
   pub upTo : (x : ℕ) → x < length P → getD P x 0 ≤ x
   pub lower : (x : ℕ) → 0 < x → x < length P → getD P x 0 < x
@@ -160,11 +161,11 @@ pub record Good (P L : List ℕ) : Type 0 where
 pub good-table : (P L : List ℕ) → goodTable P L ≡ true → Good P L
 unfolding goodTable
 good-table P L e =
-    let a = both (leb 1 (length P) && leb (length P) 1024) (rowsOk 0 P L) e in
-    let b = both (leb 1 (length P)) (leb (length P) 1024) (a .0) in
+    let a = both (leb 1 (length P) && leb (length P) mostRows) (rowsOk 0 P L) e in
+    let b = both (leb 1 (length P)) (leb (length P) mostRows) (a .0) in
     record {
       some = leb-true 1 (length P) (b .0);
-      few = leb-true (length P) 1024 (b .1);
+      few = leb-true (length P) mostRows (b .1);
       labels = rows-length 0 P L (a .1);
       upTo = λ x l. row-parent x (getD P x 0) (parent (a .1) x l) .0;
       lower = λ x z l. row-parent x (getD P x 0) (parent (a .1) x l) .1 z;

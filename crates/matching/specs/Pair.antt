@@ -3,36 +3,19 @@
 use mathlib.Core.Path.{_≡_}
 use mathlib.Core.Logic.{_↔_}
 use mathlib.Core.List.{List}
-use mathlib.Core.Bool.{Bool, true}
+use mathlib.Core.Bool.{true}
 use Prim.Native.Nat.{ℕ, _+_, _≤_, _<_}
 use lib.ListN.{length, getD}
-use lib.Bits.{bitAnd}
+use Rattle.meaning.specs.Limits.{mostNodes, mostRows}
 use Rattle.meaning.specs.Document.{Doc}
 use Rattle.meaning.specs.Tree.{Forest, Tag}
 use Rattle.meaning.specs.Matching.{goodTable, docOf, bitAt, CanLie, tableBytes}
-use Rattle.rows.specs.Rows.{tagAt, treeRows, Rows}
+use Rattle.rows.specs.Rows.{tagAt, Single, treeRows, Rows}
 
 -- ------------------------------------------------------------------ what is asked
--- row u bears the mark 1 (s) or 2 (d): "mark (0 none, 1 s, 2 d, 3 both)"
-abbrev pub Bears : List ℕ → ℕ → ℕ → Type 0
-Bears mark which u = bitAnd (getD mark u 0) which ≡ 0 → ⊥
-
--- the first row that bears it
-pub record FirstRow (mark : List ℕ) (which r : ℕ) : Type 0 where
-  pub inside : r < length mark
-  pub here : Bears mark which r
-  pub before : (u : ℕ) → u < r → bitAnd (getD mark u 0) which ≡ 0
-
--- exactly one of the n rows is so
-pub record Single (p : ℕ → Bool) (n : ℕ) : Type 0 where
-  pub row : ℕ
-  pub inside : row < n
-  pub here : p row ≡ true
-  pub only : (u : ℕ) → u < n → p u ≡ true → u ≡ row
-
 -- w is the match table of a query on a document: the field `bits` of MatchTable
 abbrev pub Bits : Forest Tag → Doc → List ℕ → Type 0
-Bits F D w = (u v : ℕ) → u < 256 → v < 1024 → (bitAt w u v ≡ true) ↔ CanLie F u D v
+Bits F D w = (u v : ℕ) → u < mostNodes → v < mostRows → (bitAt w u v ≡ true) ↔ CanLie F u D v
 
 -- the query and the document that the table w, the marks, the parents' rows and the parents' numbers belong to:
 -- a tree with one s and one d, and a good table

@@ -6,6 +6,7 @@ use mathlib.Core.List.{List, []}
 use mathlib.Core.Bool.{true, false}
 use Prim.Native.Nat.{ℕ, _+_, _≤_, _<_}
 use lib.ListN.{length, getD}
+use Rattle.meaning.specs.Limits.{mostNodes, mostRows}
 use Rattle.meaning.specs.TreeQuery.{Fits}
 use Rattle.meaning.specs.Matching.{goodTable, docOf, bitAt, LaysAt, tableBytes}
 use Rattle.bits.specs.Bits.{bitOf, OnlyRow}
@@ -19,8 +20,8 @@ Suits code labels x = (x < length labels) × Fits (labOf code) (getD labels x 0)
 -- the parent numbers can be read and marked
 pub record Parents (parents : List ℕ) : Type 0 where
   pub some : 1 ≤ length parents
-  pub few : length parents ≤ 1024
-  pub small : (x : ℕ) → x < length parents → getD parents x 0 < 1024
+  pub few : length parents ≤ mostRows
+  pub small : (x : ℕ) → x < length parents → getD parents x 0 < mostRows
 
 -- a set bit k of the byte stands for node x + k, whose parent is v
 abbrev pub FromByte : List ℕ → ℕ → ℕ → ℕ → Type 0
@@ -37,30 +38,30 @@ ParentOf w c parents e v = (x : ℕ) × (0 < x) × (x < e) × (bitAt w c x ≡ t
 -- the flags `after` are `before` with the nodes added that are so
 pub record Added (before : List ℕ) (P : ℕ → Type 0) (after : List ℕ) : Type 0 where
   pub same : length after ≡ length before
-  pub flags : (v : ℕ) → v < 1024 → (getD after v 0 ≡ 1) ↔ ((getD before v 0 ≡ 1) ⊎ P v)
+  pub flags : (v : ℕ) → v < mostRows → (getD after v 0 ≡ 1) ↔ ((getD before v 0 ≡ 1) ⊎ P v)
 
 -- the nodes of row u below e are those that are so, and it has no others
 pub record RowUpTo (w : List ℕ) (u : ℕ) (P : ℕ → Type 0) (e : ℕ) : Type 0 where
   pub low : (v : ℕ) → v < e → (bitAt w u v ≡ true) ↔ P v
-  pub high : (v : ℕ) → e ≤ v → v < 1024 → bitAt w u v ≡ false
+  pub high : (v : ℕ) → e ≤ v → v < mostRows → bitAt w u v ≡ false
 
 -- the nodes of row u are those that are so
 pub record RowIs (before : List ℕ) (u : ℕ) (P : ℕ → Type 0) (after : List ℕ) : Type 0 where
   pub only : OnlyRow before u after
-  pub bits : (v : ℕ) → v < 1024 → (bitAt after u v ≡ true) ↔ P v
+  pub bits : (v : ℕ) → v < mostRows → (bitAt after u v ≡ true) ↔ P v
 
 -- a row in which no bit is set
 abbrev pub RowClear : List ℕ → ℕ → Type 0
-RowClear w u = (v : ℕ) → v < 1024 → bitAt w u v ≡ false
+RowClear w u = (v : ℕ) → v < mostRows → bitAt w u v ≡ false
 
 -- a row whose bits stand for nodes of the document
 abbrev pub RowInside : List ℕ → ℕ → List ℕ → Type 0
-RowInside w u parents = (v : ℕ) → v < 1024 → bitAt w u v ≡ true → v < length parents
+RowInside w u parents = (v : ℕ) → v < mostRows → bitAt w u v ≡ true → v < length parents
 
 -- ------------------------------------------------------------------ the whole table
 -- what is asked of the query: rows that are laid out as a tree
 pub record Query (code span : List ℕ) (n : ℕ) : Type 0 where
-  pub few : n ≤ 256
+  pub few : n ≤ mostNodes
   pub codes : n ≤ length code
   pub spans : n ≤ length span
   pub laid : Holds span 0 n (shape span n)
@@ -76,7 +77,7 @@ Needs span u c = (code parents labels : List ℕ) (v : ℕ) → Lies code span p
 -- the rows from u on have their bits
 abbrev pub RowsFrom : List ℕ → List ℕ → List ℕ → List ℕ → ℕ → ℕ → List ℕ → Type 0
 RowsFrom code span parents labels n u w =
-    (c v : ℕ) → u ≤ c → c < n → v < 1024 → (bitAt w c v ≡ true) ↔ Lies code span parents labels c v
+    (c v : ℕ) → u ≤ c → c < n → v < mostRows → (bitAt w c v ≡ true) ↔ Lies code span parents labels c v
 
 -- what is known before row u is filled
 pub record Ready (w code span parents labels : List ℕ) (n u : ℕ) : Type 0 where
@@ -91,5 +92,5 @@ pub record Ready (w code span parents labels : List ℕ) (n u : ℕ) : Type 0 wh
 pub record Filled (before code span parents labels : List ℕ) (n u : ℕ) (after : List ℕ) : Type 0 where
   pub same : length after ≡ length before
   pub behind : RowsFrom code span parents labels n u after
-  pub clear : (y : ℕ) → y < 256 → (y < u) ⊎ (n ≤ y) → RowClear after y
+  pub clear : (y : ℕ) → y < mostNodes → (y < u) ⊎ (n ≤ y) → RowClear after y
   pub later : (i : ℕ) → tableBytes ≤ i → getD after i 0 ≡ getD before i 0

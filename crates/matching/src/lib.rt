@@ -1,4 +1,6 @@
 // The pair question below its words: the check of a document table, the match table of a query in rows on a document, and the pair by climbing.
+use limits::most::LARGEST_LABEL;
+use limits::most::MOST_ROWS;
 ghost use mathlib.Core.Path.{_≡_};
 ghost use mathlib.Core.Logic.{_↔_};
 ghost use mathlib.Core.List.{List};
@@ -6,19 +8,20 @@ ghost use mathlib.Core.Bool.{true, _&&_};
 ghost use Prim.Native.Nat.{ℕ, _+_, _*_, _≤_, _<_};
 ghost use lib.ListN.{length, getD};
 ghost use lib.Dec.{leb, eqb};
+ghost use Rattle.meaning.specs.Limits.{mostNodes, mostRows};
 ghost use Rattle.meaning.specs.Number.{largestLabel};
 ghost use Rattle.meaning.specs.Tree.{Takes};
 ghost use Rattle.meaning.specs.Matching.{parentOk, goodTable, docOf, bitAt, MatchTable, tableBytes};
 ghost use Rattle.bits.specs.Bits.{bitOf, Sifted, OnlyRow};
 ghost use Rattle.rows.specs.Rows.{shape, Holds, treeRows};
 ghost use Rattle.matching.specs.Table.{Suits, Parents, FromByte, Upto, ParentOf, Added, RowUpTo, RowIs, RowClear, RowInside, Query, Lies, Needs, Ready};
-ghost use Rattle.matching.specs.Pair.{Bears, FirstRow, Asked, OneWay};
+ghost use Rattle.matching.specs.Pair.{Asked, OneWay};
 
 // Whether node x may have this parent number and this label.
 fn good_row(x: u32, parent: u32, label: u32) -> bool
     ensures { λ r. ⌜ r ≡ (parentOk x parent && leb label largestLabel) ⌝ }
 {
-    if 65535 < label {
+    if LARGEST_LABEL < label {
         return false;
     }
     if x == 0 {
@@ -46,7 +49,7 @@ pub fn good_table(parents: &[u32], labels: &[u32]) -> bool
     if n == 0 {
         return false;
     }
-    if 1024 < n {
+    if MOST_ROWS < n {
         return false;
     }
     if labels.len() != n {
@@ -74,7 +77,7 @@ fn fits_at(code: u32, labels: &[u32], x: usize) -> bool
 
 // Which of eight nodes bear a label, as the bits of a byte.
 fn same_byte(label: u32, labels: &[u32], from: usize) -> u8
-    requires { ⌜ (from < 1024) × (from + 8 ≤ length (now labels)) ⌝ }
+    requires { ⌜ (from < mostRows) × (from + 8 ≤ length (now labels)) ⌝ }
     ensures { λ r. ⌜ Sifted 255 (λ k. eqb (getD (now (labels .entry)) (from + k) 0) label) 8 r ⌝ }
 {
     let mut b: u8 = 255;
@@ -88,7 +91,7 @@ fn same_byte(label: u32, labels: &[u32], from: usize) -> u8
 
 // Which of eight nodes a label code fits, as the bits of a byte.
 fn label_byte(code: u32, labels: &[u32], from: usize) -> u8
-    requires { ⌜ (from < 1024) × (from + 8 ≤ length (now labels)) ⌝ }
+    requires { ⌜ (from < mostRows) × (from + 8 ≤ length (now labels)) ⌝ }
     ensures { λ r. ⌜ ((k : ℕ) → k < 8 → (bitOf r k ≡ true) ↔ Suits code (now (labels .entry)) (from + k)) ⌝ }
 {
     if code == 0 {
@@ -99,7 +102,7 @@ fn label_byte(code: u32, labels: &[u32], from: usize) -> u8
 
 // Sets bit v of row u if a label code fits node v.
 fn label_node(w: &mut [u8], u: usize, code: u32, labels: &[u32], v: usize)
-    requires { ⌜ (u < 256) × (v < 1024) × (128 * u + 128 ≤ length (now w)) × (v < length (now labels)) × RowUpTo (now w) u (Suits code (now labels)) v ⌝ }
+    requires { ⌜ (u < mostNodes) × (v < mostRows) × (128 * u + 128 ≤ length (now w)) × (v < length (now labels)) × RowUpTo (now w) u (Suits code (now labels)) v ⌝ }
     ensures { λ _. ⌜ OnlyRow (now (w .entry)) u (now (w .exit)) × RowUpTo (now (w .exit)) u (Suits code (now (labels .entry))) (v + 1) ⌝ }
 {
     if fits_at(code, labels, v) {
@@ -110,7 +113,7 @@ fn label_node(w: &mut [u8], u: usize, code: u32, labels: &[u32], v: usize)
 
 // The last nodes of row u, those that do not fill a byte, one by one.
 fn label_rest(w: &mut [u8], u: usize, code: u32, labels: &[u32], from: usize)
-    requires { ⌜ (u < 256) × (128 * u + 128 ≤ length (now w)) × (length (now labels) ≤ 1024) × (from ≤ length (now labels)) × RowUpTo (now w) u (Suits code (now labels)) from ⌝ }
+    requires { ⌜ (u < mostNodes) × (128 * u + 128 ≤ length (now w)) × (length (now labels) ≤ mostRows) × (from ≤ length (now labels)) × RowUpTo (now w) u (Suits code (now labels)) from ⌝ }
     ensures { λ _. ⌜ RowIs (now (w .entry)) u (Suits code (now (labels .entry))) (now (w .exit)) ⌝ }
 {
     let mut v = from;
@@ -122,7 +125,7 @@ fn label_rest(w: &mut [u8], u: usize, code: u32, labels: &[u32], from: usize)
 
 // Fills the clear row u with the nodes that a label code fits: eight at a time, then the rest.
 fn label_row(w: &mut [u8], u: usize, code: u32, labels: &[u32])
-    requires { ⌜ (u < 256) × (128 * u + 128 ≤ length (now w)) × (length (now labels) ≤ 1024) × RowClear (now w) u ⌝ }
+    requires { ⌜ (u < mostNodes) × (128 * u + 128 ≤ length (now w)) × (length (now labels) ≤ mostRows) × RowClear (now w) u ⌝ }
     ensures { λ _. ⌜ RowIs (now (w .entry)) u (Suits code (now (labels .entry))) (now (w .exit)) ⌝ }
 {
     let at = 128 * u;
@@ -137,7 +140,7 @@ fn label_row(w: &mut [u8], u: usize, code: u32, labels: &[u32])
 
 // Flags the parent of node x.
 fn mark_node(x: usize, parents: &[u32], has: &mut [u8])
-    requires { ⌜ Parents (now parents) × (1024 ≤ length (now has)) × (x < length (now parents)) ⌝ }
+    requires { ⌜ Parents (now parents) × (mostRows ≤ length (now has)) × (x < length (now parents)) ⌝ }
     ensures { λ _. ⌜ Added (now (has .entry)) (λ v. getD (now (parents .entry)) x 0 ≡ v) (now (has .exit)) ⌝ }
 {
     let p = parent_at(parents, x);
@@ -146,10 +149,10 @@ fn mark_node(x: usize, parents: &[u32], has: &mut [u8])
 
 // Flags the parent of node x, if bit k of b is set.
 fn mark_parent(b: u8, k: usize, x: usize, parents: &[u32], has: &mut [u8])
-    requires { ⌜ Parents (now parents) × (1024 ≤ length (now has)) × (k < 8) × (bitOf b k ≡ true → x < length (now parents)) ⌝ }
+    requires { ⌜ Parents (now parents) × (mostRows ≤ length (now has)) × (k < 8) × (bitOf b k ≡ true → x < length (now parents)) ⌝ }
     ensures { λ _. ⌜ Added (now (has .entry)) (λ v. (bitOf b k ≡ true) × (getD (now (parents .entry)) x 0 ≡ v)) (now (has .exit)) ⌝ }
 {
-    if (b >> k) & 1 == 1 {
+    if bits::bit_of(b, k) {
         mark_node(x, parents, has);
         return;
     }
@@ -157,7 +160,7 @@ fn mark_parent(b: u8, k: usize, x: usize, parents: &[u32], has: &mut [u8])
 
 // Flags the parents of the nodes whose bits are set in a byte, node `first` being its lowest bit.
 fn mark_parents(byte: u8, first: usize, parents: &[u32], has: &mut [u8])
-    requires { ⌜ Parents (now parents) × (1024 ≤ length (now has)) × (first ≤ 1024) × ((k : ℕ) → bitOf byte k ≡ true → first + k < length (now parents)) ⌝ }
+    requires { ⌜ Parents (now parents) × (mostRows ≤ length (now has)) × (first ≤ mostRows) × ((k : ℕ) → bitOf byte k ≡ true → first + k < length (now parents)) ⌝ }
     ensures { λ _. ⌜ Added (now (has .entry)) (FromByte (now (parents .entry)) byte first) (now (has .exit)) ⌝ }
 {
     let mut k: usize = 0;
@@ -169,7 +172,7 @@ fn mark_parents(byte: u8, first: usize, parents: &[u32], has: &mut [u8])
 
 // Flags the parents of eight nodes, from node `first` on.
 fn mark_eight(first: usize, parents: &[u32], has: &mut [u8])
-    requires { ⌜ Parents (now parents) × (1024 ≤ length (now has)) × (first + 8 ≤ length (now parents)) ⌝ }
+    requires { ⌜ Parents (now parents) × (mostRows ≤ length (now has)) × (first + 8 ≤ length (now parents)) ⌝ }
     ensures { λ _. ⌜ Added (now (has .entry)) (Upto (λ k v. getD (now (parents .entry)) (first + k) 0 ≡ v) 8) (now (has .exit)) ⌝ }
 {
     let mut k: usize = 0;
@@ -181,7 +184,7 @@ fn mark_eight(first: usize, parents: &[u32], has: &mut [u8])
 
 // As mark_parents. Empty bytes, and full ones, as a wildcard's row has many, need no test of each bit.
 fn mark_byte(byte: u8, first: usize, parents: &[u32], has: &mut [u8])
-    requires { ⌜ Parents (now parents) × (1024 ≤ length (now has)) × (first ≤ 1024) × ((k : ℕ) → bitOf byte k ≡ true → first + k < length (now parents)) ⌝ }
+    requires { ⌜ Parents (now parents) × (mostRows ≤ length (now has)) × (first ≤ mostRows) × ((k : ℕ) → bitOf byte k ≡ true → first + k < length (now parents)) ⌝ }
     ensures { λ _. ⌜ Added (now (has .entry)) (FromByte (now (parents .entry)) byte first) (now (has .exit)) ⌝ }
 {
     if byte == 0 {
@@ -196,7 +199,7 @@ fn mark_byte(byte: u8, first: usize, parents: &[u32], has: &mut [u8])
 
 // Flags the parents of the nodes in row c. Node 0, the root, has none: the first byte is read without its lowest bit.
 fn mark_row(w: &[u8], c: usize, parents: &[u32], has: &mut [u8])
-    requires { ⌜ Parents (now parents) × (1024 ≤ length (now has)) × (c < 256) × (128 * c + 128 ≤ length (now w)) × RowInside (now w) c (now parents) ⌝ }
+    requires { ⌜ Parents (now parents) × (mostRows ≤ length (now has)) × (c < mostNodes) × (128 * c + 128 ≤ length (now w)) × RowInside (now w) c (now parents) ⌝ }
     ensures { λ _. ⌜ Added (now (has .entry)) (ParentOf (now (w .entry)) c (now (parents .entry)) (length (now (parents .entry)))) (now (has .exit)) ⌝ }
 {
     let at = 128 * c;
@@ -212,20 +215,12 @@ fn mark_row(w: &[u8], c: usize, parents: &[u32], has: &mut [u8])
 
 // Keeps of row u the nodes that have a child in row c. Parents are flagged by bytes: brothers would wait for each other to set bits of one byte.
 fn keep_parents(w: &mut [u8], u: usize, c: usize, parents: &[u32])
-    requires { ⌜ Parents (now parents) × (u < 256) × (c < 256) × (tableBytes ≤ length (now w)) × RowInside (now w) c (now parents) × RowInside (now w) u (now parents) ⌝ }
+    requires { ⌜ Parents (now parents) × (u < mostNodes) × (c < mostNodes) × (tableBytes ≤ length (now w)) × RowInside (now w) c (now parents) × RowInside (now w) u (now parents) ⌝ }
     ensures { λ _. ⌜ RowIs (now (w .entry)) u (λ v. (bitAt (now (w .entry)) u v ≡ true) × ParentOf (now (w .entry)) c (now (parents .entry)) (length (now (parents .entry))) v) (now (w .exit)) ⌝ }
 {
-    let mut has = [0u8; 1024];
+    let mut has = [0u8; MOST_ROWS];
     mark_row(w, c, parents, &mut has);
     bits::meet(w, u, &has, (parents.len() + 7) / 8);
-}
-
-// What stands at row u: its span, or its parent's row.
-fn link_at(t: &[u16], u: usize) -> usize
-    requires { ⌜ u < length (now t) ⌝ }
-    ensures { λ r. ⌜ r ≡ getD (now (t .entry)) u 0 ⌝ }
-{
-    t[u] as usize
 }
 
 // The parent number of node x.
@@ -238,16 +233,16 @@ fn parent_at(parents: &[u32], x: usize) -> usize
 
 // Whether a child of query node u lies nowhere. n, the number of rows, is for the contract alone.
 fn child_nowhere(w: &[u8], span: &[u16], n: usize, u: usize) -> bool
-    requires { ⌜ (tableBytes ≤ length (now w)) × (n ≤ 256) × (n ≤ length (now span)) × Holds (now span) 0 n (shape (now span) n) × (u < n) ⌝ }
+    requires { ⌜ (tableBytes ≤ length (now w)) × (n ≤ mostNodes) × (n ≤ length (now span)) × Holds (now span) 0 n (shape (now span) n) × (u < n) ⌝ }
     ensures { λ r. ⌜ (r ≡ true → (c : ℕ) × (u < c) × (c < n) × Needs (now (span .entry)) u c × RowClear (now (w .entry)) c) ⌝ }
 {
-    let end = u + link_at(span, u);
+    let end = u + rows::link(span, u);
     let mut c = u + 1;
     while c < end {
         if bits::row_clear(w, c) {
             return true;
         }
-        c += link_at(span, c);
+        c += rows::link(span, c);
     }
     false
 }
@@ -267,14 +262,14 @@ fn fill_row(
     ensures { λ _. ⌜ RowIs (now (w .entry)) u (Lies (now (code .entry)) (now (span .entry)) (now (parents .entry)) (now (labels .entry)) u) (now (w .exit)) ⌝ }
 {
     label_row(w, u, code[u], labels);
-    let end = u + link_at(span, u);
+    let end = u + rows::link(span, u);
     let mut c = u + 1;
     while c < end {
         if bits::row_clear(w, u) {
             return;
         }
         keep_parents(w, u, c, parents);
-        c += link_at(span, c);
+        c += rows::link(span, c);
     }
 }
 
@@ -317,21 +312,9 @@ pub fn match_table(
     }
 }
 
-// The first row that bears the mark: 1 for s, 2 for d.
-fn row_of(mark: &[u8], which: u8) -> usize
-    requires { ⌜ ((u : ℕ) × (u < length (now mark)) × Bears (now mark) which u) ⌝ }
-    ensures { λ r. ⌜ FirstRow (now (mark .entry)) which r ⌝ }
-{
-    let mut u: usize = 0;
-    while mark[u] & which == 0 {
-        u += 1;
-    }
-    u
-}
-
 // Whether row u may lie on node x and the row above it on x's parent: u's bit is set there, and x is not the root.
 fn can_climb(w: &[u8], u: usize, x: usize) -> bool
-    requires { ⌜ (u < 256) × (x < 1024) × (tableBytes ≤ length (now w)) ⌝ }
+    requires { ⌜ (u < mostNodes) × (x < mostRows) × (tableBytes ≤ length (now w)) ⌝ }
     ensures { λ r. ⌜ (r ≡ true) ↔ ((0 < x) × (bitAt (now (w .entry)) u x ≡ true)) ⌝ }
 {
     if x == 0 {
@@ -351,7 +334,7 @@ fn climbs(w: &[u8], up: &[u16], parents: &[u32], u: usize, x: usize) -> bool
         if !can_climb(w, c, y) {
             return false;
         }
-        c = link_at(up, c);
+        c = rows::link(up, c);
         y = parent_at(parents, y);
     }
     bits::test_bit(w, 0, y)
@@ -370,8 +353,8 @@ pub fn pair_selected(
     requires { ⌜ Asked (now workspace) (now mark) (now up) (now parents) × (m < length (now parents)) × (n < length (now parents)) ⌝ }
     ensures { λ r. ⌜ ((q : Asked (now (workspace .entry)) (now (mark .entry)) (now (up .entry)) (now (parents .entry))) → (r ≡ true) ↔ Takes (treeRows (q .code) (now (mark .entry)) (q .span) (q .rows)) (docOf (now (parents .entry)) (q .labels)) m n) ⌝ }
 {
-    let mut u = row_of(mark, 1);
-    let mut v = row_of(mark, 2);
+    let mut u = rows::row_of(mark, rows::S);
+    let mut v = rows::row_of(mark, rows::D);
     let mut x = m;
     let mut y = n;
     while u != v {
@@ -379,14 +362,14 @@ pub fn pair_selected(
             if !can_climb(workspace, u, x) {
                 return false;
             }
-            u = link_at(up, u);
+            u = rows::link(up, u);
             x = parent_at(parents, x);
             continue;
         }
         if !can_climb(workspace, v, y) {
             return false;
         }
-        v = link_at(up, v);
+        v = rows::link(up, v);
         y = parent_at(parents, y);
     }
     if x != y {

@@ -6,41 +6,23 @@ use Prim.Native.Nat.{ℕ, suc, _+_, _≤_, _<_}
 use native.Mathlib.Decide.{ℕ-discrete, decLt}
 use native.Mathlib.Omega.{arith}
 use lib.ListN.{getD}
-use lib.Dec.{leb, ltb}
-use borrow.Author.Tests.{leb-true, ltb-true, eq-eqb, ne-eqb}
+use borrow.Author.Tests.{eq-eqb, ne-eqb}
 use Rattle.meaning.specs.Expression.{Expr, child, parent}
 use Rattle.meaning.specs.Tree.{Forest, bare, tree, Tag, size}
 use Rattle.meaning.specs.Normal.{srcIn, dstIn, bothIn, eitherIn, someTree, ups, downs, aboveFactor, around, factors}
-use Rattle.rows.specs.Rows.{below, shape, mapT, Holds, Rows}
-use Rattle.rows.proofs.Rows.{size-holds, holds-first, holds-opens, rows-top}
-use Rattle.branches.specs.Factors.{tagged, under, covers, ownAt}
+use Rattle.rows.specs.Rows.{covers, below, shape, mapT, Holds, Rows}
+use Rattle.rows.proofs.Rows.{size-holds, holds-first, rows-top, row-inside}
+use Rattle.branches.specs.Factors.{tagged, under, ownAt}
 use Rattle.branches.proofs.Covers.{src-covers, dst-covers, either-covers, both-covers, covers-in, covers-before, covers-behind}
 use Rattle.theory.proofs.Look.{never}
-use Rattle.normal.specs.Ways.{Covers, Lowest, upsAt, downsAt, wayTo, wayAt, formAt}
-use Rattle.normal.proofs.Walk.{row-open, own-is, or-same, src-same, dst-same}
-
--- ------------------------------------------------------------------ who covers whom
-pub covers-true : (span : List ℕ) (c x : ℕ) → covers span c x ≡ true → Covers span c x
-unfolding covers
-covers-true span c x = go (leb c x) refl (ltb x (c + getD span c 0)) refl
-  where
-    go : (a : Bool) → leb c x ≡ a → (b : Bool) → ltb x (c + getD span c 0) ≡ b → (a && b) ≡ true → Covers span c x
-    go true p true q e = record { from = leb-true c x p; to = ltb-true x (c + getD span c 0) q }
-    go true p false q e = never cc
-    go false p b q e = never cc
-
-pub unlike : true ≡ false → ⊥
-unlike e = never cc
+use Rattle.ways.specs.Ways.{Covers, Lowest, upsAt, downsAt, wayTo, wayAt}
+use Rattle.normal.specs.Forms.{formAt}
+use Rattle.ways.proofs.Walk.{covers-true, row-open, own-is, or-same, src-same, dst-same}
 
 module _ {code mark kids span up : List ℕ} {n : ℕ} (R : Rows code mark kids span up n) where
   covers-trans : (c t x : ℕ) → c < n → Covers span c t → Covers span t x → Covers span c x
-  covers-trans c t x l v w = record { from = omega (arith, v .from, w .from); to = go (ℕ-discrete c t) }
-    where
-      go : Dec (c ≡ t) → x < c + getD span c 0
-      go (yes q) = rw q (w .to)
-      go (no q) =
-          let o = holds-opens span (suc c) (c + getD span c 0) (below span c) (row-open R c l .held) t (omega (arith, v .from)) (v .to) in
-          omega (arith, o .inside, w .to)
+  covers-trans c t x l v w =
+      record { from = omega (arith, v .from, w .from); to = omega (arith, row-inside R c t l (v .from) (v .to), w .to) }
 
   module _ (s d t : ℕ) (L : Lowest span s d t) where
     both-row : (c : ℕ) → c < n → bothIn (tagged code s d c) (under code span s d c) ≡ covers span c t
@@ -49,14 +31,14 @@ module _ {code mark kids span up : List ℕ} {n : ℕ} (R : Rows code mark kids 
         not-t : {x : ℕ} → Covers span t x → covers span c x ≡ false → covers span c t ≡ true → ⊥
         not-t {x} w f e =
             let v = covers-trans c t x l (covers-true span c t e) w in
-            unlike (sym (covers-in span c x (v .from) (v .to)) ∙ f)
+            never (cc (sym (covers-in span c x (v .from) (v .to)) ∙ f))
 
         go : (a : Bool) → covers span c s ≡ a → (b : Bool) → covers span c d ≡ b → (z : Bool) → covers span c t ≡ z → (a && b) ≡ z
         go true p true q true e = refl
         go true p true q false e =
             let vs = covers-true span c s p in
             let le = L .least c vs (covers-true span c d q) in
-            absurd (unlike (sym (covers-in span c t le (omega (arith, vs .to, L .to-s .from))) ∙ e))
+            never (cc (sym (covers-in span c t le (omega (arith, vs .to, L .to-s .from))) ∙ e))
         go true p false q true e = absurd (not-t (L .to-d) q e)
         go true p false q false e = refl
         go false p b q true e = absurd (not-t (L .to-s) p e)

@@ -5,24 +5,25 @@ use mathlib.Core.List.{List, []}
 use Prim.Native.Nat.{ℕ, zero, suc, _+_, _-_, _≤_, _<_}
 use native.Mathlib.Omega.{arith}
 use lib.ListN.{length, getD}
-use lib.Dec.{ltb, eqb}
+use lib.Dec.{ltb}
 use borrow.Author.Tests.{lt-ltb, eq-eqb, ne-eqb}
 use Rattle.meaning.specs.Number.{num}
 use Rattle.meaning.specs.Tree.{Forest, bare, tree, Tag, size}
 use Rattle.meaning.specs.Normal.{all, eitherIn, bothIn, someTree, factors, normal, wordOf}
 use Rattle.theory.proofs.Count.{bit, count, src, dst}
 use Rattle.theory.proofs.Limits.{cost}
-use Rattle.rows.specs.Rows.{labOf, below, shape, mapT, treeRows, Holds, width, Counted, Hung, noRow, Rows}
+use Rattle.rows.specs.Rows.{labOf, FirstRow, covers, below, shape, mapT, treeRows, Holds, width, Counted, Hung}
 use Rattle.rows.proofs.Rows.{size-holds, holds-first, rows-top, width-mapT}
-use Rattle.branches.specs.Factors.{tagged, under, covers}
+use Rattle.branches.specs.Factors.{tagged, under}
 use Rattle.branches.proofs.Covers.{either-covers, covers-in}
-use Rattle.normal.specs.Ways.{QueryRows, Lowest, bears, formAt}
-use Rattle.normal.specs.Weight.{labWeight, onWay, branching, rowWeight, rowsWeight}
-use Rattle.normal.proofs.Weight.{several, weigh, factors-weigh, word-weigh}
-use Rattle.normal.proofs.Walk.{row-open}
-use Rattle.normal.proofs.Marks.{tagged-rows}
+use Rattle.ways.specs.Ways.{Lowest}
+use Rattle.normal.specs.Forms.{QueryRows, formAt}
+use Rattle.normal.specs.Weights.{labWeight, onWay, branching, rowWeight, rowsWeight}
+use Rattle.normal.proofs.Weights.{several, weigh, factors-weigh, word-weigh}
+use Rattle.ways.proofs.Walk.{row-open}
+use Rattle.normal.proofs.Marks.{src-in, tagged-rows}
 use Rattle.normal.proofs.Around.{some-none, some-here, factors-rows}
-use Rattle.normal.proofs.Form.{form-word}
+use Rattle.normal.proofs.Forms.{form-word}
 
 several-width : (k : Forest Tag) → several k ≡ ltb 1 (width k)
 several-width bare = refl
@@ -158,16 +159,16 @@ module _ (code kids span up : List ℕ) (s d : ℕ) where
   all-rows n e b h g c = rw e (omega (arith, top-weight, rw b at (rows-weigh 0 1 n (below span 0) (omega arith) h g c)))
 
 -- ------------------------------------------------------------------ the normal form
-module _ {code mark kids span up : List ℕ} {n : ℕ} (Q : QueryRows code mark kids span up n) (s d : ℕ)
-    (bs : (s < n) × (bears mark 1 s ≡ true)) (bd : (d < n) × (bears mark 2 d ≡ true)) (t : ℕ) (L : Lowest span s d t) where
+module _ {code mark kids span up : List ℕ} {n : ℕ} (Q : QueryRows code mark kids span up n) (ne : n ≡ 0 → ⊥)
+    {s d t : ℕ} (fs : FirstRow mark 0 s) (fd : FirstRow mark 1 d) (L : Lowest span s d t) where
   abbrev K : Forest Tag
   K = mapT (tagged code s d) (below span 0)
 
   some : 0 < n
-  some = omega (arith, bs .0)
+  some = omega arith
 
   t-in : t < n
-  t-in = omega (arith, L .to-s .from, bs .0)
+  t-in = omega (arith, L .to-s .from, src-in Q ne fs)
 
   abbrev Sum : ℕ
   Sum = rowsWeight code kids span up s d n 0
@@ -177,7 +178,7 @@ module _ {code mark kids span up : List ℕ} {n : ℕ} (Q : QueryRows code mark 
   shape-top = ap (mapT (tagged code s d)) (rows-top code mark kids span up n (Q .rows) some .shape-is)
 
   tree-top : treeRows code mark span n ≡ tree (tagged code s d 0) K bare
-  tree-top = tagged-rows (Q .rows) (Q .one-src some) (Q .one-dst some) s d (bs .0) (bd .0) (bs .1) (bd .1) ∙ shape-top
+  tree-top = tagged-rows Q ne fs fd ∙ shape-top
 
   sum-rows : Sum ≡ labWeight (labOf (getD code 0 0)) + weigh true K
   sum-rows =
@@ -187,7 +188,7 @@ module _ {code mark kids span up : List ℕ} {n : ℕ} (Q : QueryRows code mark 
       let h : Holds span 1 n (below span 0) = rw m at (o .held) in
       let z = size-holds span 1 n (below span 0) h in
       all-rows code kids span up s d n (omega arith) (top-branching code kids span up s d
-      (covers-in span 0 s (omega arith) (omega (arith, T .span-all, bs .0)))) h
+      (covers-in span 0 s (omega arith) (omega (arith, T .span-all, src-in Q ne fs)))) h
       ((rw (T .shape-is) at (Q .rows .hung)) .1) ((rw (T .shape-is) at (Q .rows .counted)) .1)
 
   cost-form : cost (formAt code span s d t) ≡ bit (someTree bothIn K) + Sum
@@ -200,11 +201,11 @@ module _ {code mark kids span up : List ℕ} {n : ℕ} (Q : QueryRows code mark 
   Word = wordOf (normal (treeRows code mark span n))
 
   word-is : length Word ≡ length (wordOf (all (formAt code span s d t)))
-  word-is = ap length (form-word Q s d bs bd t L)
+  word-is = ap length (form-word Q ne fs fd L)
 
   -- t is not the top: the second projection of the way above it is one sign more
   pub counted-above : (t ≡ 0 → ⊥) → length Word ≡ Sum
-  counted-above ne =
+  counted-above lower =
       let o = row-open (Q .rows) 0 some in
       let T = rows-top code mark kids span up n (Q .rows) some in
       let b = some-here (Q .rows) s d t L 1 (0 + getD span 0 0) (below span 0) (o .held) (o .inside) (omega arith)

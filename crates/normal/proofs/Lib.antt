@@ -1,8 +1,7 @@
-mod Walk
+-- Laws of the normal form and of its weight; the folders beside prove the functions with them.
 mod Around
 mod Marks
-mod Steps
 mod Writing
-mod Form
-mod Weight
+mod Forms
+mod Weights
 mod Counting

@@ -1,2 +1,2 @@
-pub mod Ways
-pub mod Weight
+pub mod Forms
+pub mod Weights

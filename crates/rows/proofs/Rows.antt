@@ -261,3 +261,22 @@ module _ (code mark kids span up : List ℕ) (n : ℕ) (R : Rows code mark kids 
       go : (v : ℕ) → getD span 0 0 ≡ n → c + getD span c 0 ≤ 0 + getD span 0 0 → (v ≡ 0) ⊎ ((1 ≤ v) × Within span c v) → Within span c v
       go v e i (inl a) = let y : getD span v 0 ≡ n = rw a e in (omega arith, omega arith)
       go v e i (inr (a, w)) = w
+
+module _ {code mark kids span up : List ℕ} {n : ℕ} (R : Rows code mark kids span up n) where
+  -- a row at or below row c ends with it or before
+  pub row-inside : (c t : ℕ) → c < n → c ≤ t → t < c + getD span c 0 → t + getD span t 0 ≤ c + getD span c 0
+  row-inside c t l a b = go (ℕ-discrete c t)
+    where
+      go : Dec (c ≡ t) → t + getD span t 0 ≤ c + getD span c 0
+      go (yes q) = rw q (omega arith)
+      go (no q) = holds-opens span (suc c) (c + getD span c 0) (below span c) (row-opens span n (R .laid) c l .held) t (omega arith) b .inside
+
+  -- a row above row c, and not c itself, is at or above c's parent
+  pub row-least : (v c : ℕ) → v < n → v < c → c < v + getD span v 0 → v ≤ getD up c 0
+  row-least v c b l m =
+      let K = row-kids code mark kids span up n R v b .1 in
+      go (rest-placed kids span up v (suc v) (v + getD span v 0) (K .forest) (K .held) (K .counted) (K .hung) c l m .parent)
+    where
+      go : (getD up c 0 ≡ v) ⊎ ((suc v ≤ getD up c 0) × Within span c (getD up c 0)) → v ≤ getD up c 0
+      go (inl a) = omega arith
+      go (inr (a, w)) = omega arith

@@ -6,7 +6,7 @@ use mathlib.Core.Bool.{Bool, true, false, _&&_, cond}
 use mathlib.Core.List.{List}
 use Prim.Native.Nat.{ℕ, zero, suc, _+_, _≤_, _<_}
 use lib.ListN.{length, getD}
-use lib.Dec.{ltb, leb}
+use lib.Dec.{ltb, leb, eqb}
 use Rattle.meaning.specs.Limits.{mostNodes}
 use Rattle.meaning.specs.Number.{largestLabel}
 use Rattle.meaning.specs.TreeQuery.{Lab, any, lab}
@@ -32,6 +32,12 @@ pub record FirstRow (mark : List ℕ) (bit r : ℕ) : Type 0 where
   pub inside : r < length mark
   pub here : bitOf (getD mark r 0) bit ≡ true
   pub before : (u : ℕ) → u < r → bitOf (getD mark u 0) bit ≡ false
+
+-- exactly one of the n rows is so
+pub record Single (p : ℕ → Bool) (n : ℕ) : Type 0 where
+  pub row : ℕ
+  pub inside : row < n
+  pub is : (u : ℕ) → u < n → p u ≡ eqb u row
 
 -- row x lies at or below row c
 unfoldable pub covers : List ℕ → ℕ → ℕ → Bool

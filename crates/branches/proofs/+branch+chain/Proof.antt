@@ -22,7 +22,7 @@ use Rattle.branches.proofs.+branch+chain.Lts-chain as chain-lts
 use Rattle.branches.proofs.join.Reads as join-reads
 use Rattle.branches.proofs.put_label.Reads as put-label-reads
 use Rattle.branches.proofs.put_sign.Reads as put-sign-reads
-use Rattle.branches.proofs.span_at.Reads as span-at-reads
+use Rattle.rows.proofs.link.Reads as link-reads
 use Rattle.groups.proofs.put_byte.Reads as put-byte-reads
 use Rattle.branches.proofs.+branch+chain.{statement}
 use Rattle.branches.proofs.+branch+chain.Tie.{close}
@@ -46,7 +46,7 @@ abbrev chain-below : ℕ → In 4 chain-kinds.ps
 chain-below t = and 4 chain-kinds.ps (falls 4 chain-kinds.ps _<_ μ-chain t) chain.Pre
 
 abbrev chain-claims : ℕ → chain-lts.Claims
-chain-claims t = (put-sign-reads.Asked, put-sign-reads.Learnt, put-label-reads.Asked, put-label-reads.Learnt, chain-below t, chain.Post, span-at-reads.Asked, span-at-reads.Learnt, branch-below t, branch.Post, join-reads.Asked, join-reads.Learnt)
+chain-claims t = (put-sign-reads.Asked, put-sign-reads.Learnt, put-label-reads.Asked, put-label-reads.Learnt, chain-below t, chain.Post, link-reads.Asked, link-reads.Learnt, branch-below t, branch.Post, join-reads.Asked, join-reads.Learnt)
 
 abbrev branch-claims : ℕ → branch-lts.Claims
 branch-claims t = (chain-below t, chain.Post, put-byte-reads.Asked, put-byte-reads.Learnt)
@@ -135,15 +135,15 @@ chain-returns t c =
     let (R, le, f) = s .pre .1 in
     chain-on R (s .args .room .now) le (put-sign .ensures) (put-label .ensures) (if1 .taken) (chained .ensures)
 
-chain-span-at-requires : (t : ℕ) → chain-lts.Need-span-at-requires (chain-claims t) (chain-at t) chain.Post chain-Inv-loop chain-μ-loop
-chain-span-at-requires t c κs =
+chain-link-requires : (t : ℕ) → chain-lts.Need-link-requires (chain-claims t) (chain-at t) chain.Post chain-Inv-loop chain-μ-loop
+chain-link-requires t c κs =
     let s = c .before .before .before .before .before .before .before .before .before .before .before .before .before .before in
     let R = s .pre .1 .0 in omega (arith, R .within, R .rows .spans)
 
 chain-add-stop : (t : ℕ) → chain-lts.Need-add-stop (chain-claims t) (chain-at t) chain.Post chain-Inv-loop chain-μ-loop
 chain-add-stop t c =
     let s = c .before .before .before .before .before .before .before .before .before .before .before .before .before .before .before in
-    let R = s .pre .1 .0 in let w = R .within in let f = R .rows .few in let z = c .span-at .ensures .1 in omega arith
+    let R = s .pre .1 .0 in let w = R .within in let f = R .rows .few in let z = c .link .ensures .1 in omega arith
 
 chain-add-c : (t : ℕ) → chain-lts.Need-add-c (chain-claims t) (chain-at t) chain.Post chain-Inv-loop chain-μ-loop
 chain-add-c t c =
@@ -155,12 +155,12 @@ chain-loop-holds t c =
     let s = c .before .before .before .before .before .before .before .before .before .before .before .before .before .before .before in
     let put-sign = c .before .before .before .before .before .before .before .before .before .put-sign in
     let put-label = c .before .before .before .before .before .put-label in
-    let span-at = c .span-at in
+    let link = c .link in
     let (R, le, f) = s .pre .1 in
     let from-end = onward-reached R (s .args .room .now) le (put-sign .ensures) (put-label .ensures) in (
       omega arith,
-      rw (span-at .ensures .0) refl,
-      rw (span-at .ensures .0) (more-start R _ _ _ from-end (c .before .if1 .left)),
+      rw (link .ensures .0) refl,
+      rw (link .ensures .0) (more-start R _ _ _ from-end (c .before .if1 .left)),
       onward-fits R (s .args .room .now) le (put-sign .ensures) (put-label .ensures) f,
     )
 
@@ -183,8 +183,8 @@ chain-join-requires t c κs =
     let (uc, es, O, f) = l .inv in
     later-joint O uc (test .taken) f (branched .ensures)
 
-chain-span-at-requires-2 : (t : ℕ) → chain-lts.Need-span-at-requires-2 (chain-claims t) (chain-at t) chain.Post chain-Inv-loop chain-μ-loop
-chain-span-at-requires-2 t c κs =
+chain-link-requires-2 : (t : ℕ) → chain-lts.Need-link-requires-2 (chain-claims t) (chain-at t) chain.Post chain-Inv-loop chain-μ-loop
+chain-link-requires-2 t c κs =
     let s = c .before .before .before .before .before .before .before .before .before .before .before .before .before .before .before .before .before .before .before .before .before .before .before .before .before in
     let l = c .before .before .before .before .before .before .before .before .before .loop in
     let test = c .before .before .before .before .before .before .before .before .loop-test in
@@ -199,7 +199,7 @@ chain-add-c-2 t c =
     let test = c .before .before .before .before .before .before .before .before .before .loop-test in
     let R = s .pre .1 .0 in
     let o = row-open R .inside in
-    omega (arith, l .inv .1, test .taken, R .rows .few, c .span-at2 .ensures .1)
+    omega (arith, l .inv .1, test .taken, R .rows .few, c .link2 .ensures .1)
 
 chain-loop-less : (t : ℕ) → chain-lts.Need-loop-less (chain-claims t) (chain-at t) chain.Post chain-Inv-loop chain-μ-loop
 chain-loop-less t c =
@@ -208,7 +208,7 @@ chain-loop-less t c =
     let test = c .before .before .before .before .before .before .before .before .before .loop-test in
     let (uc, es, O, f) = l .inv in
     let b = row-below (s .pre .1 .0) (l .c) uc (omega (arith, test .taken)) in
-    omega (arith, b .0, c .span-at2 .ensures .0, test .taken)
+    omega (arith, b .0, c .link2 .ensures .0, test .taken)
 
 chain-loop-again : (t : ℕ) → chain-lts.Need-loop-again (chain-claims t) (chain-at t) chain.Post chain-Inv-loop chain-μ-loop
 chain-loop-again t c =
@@ -217,7 +217,7 @@ chain-loop-again t c =
     let branched = c .before .before .before .before .before .before .before .branch in
     let join = c .before .before .before .join in
     let (uc, es, O, f) = l .inv in
-    (omega arith, es, rw (c .span-at2 .ensures .0) (later-next O uc (test .taken) (branched .ensures) (join .ensures)), f)
+    (omega arith, es, rw (c .link2 .ensures .0) (later-next O uc (test .taken) (branched .ensures) (join .ensures)), f)
 
 chain-same-length-2 : (t : ℕ) → chain-lts.Need-same-length-2 (chain-claims t) (chain-at t) chain.Post chain-Inv-loop chain-μ-loop
 chain-same-length-2 t c =
@@ -250,13 +250,13 @@ pub +branch+chain-spec : {M : Type 1} → statement M
     (chain-chain-requires t)
     (chain-same-length t)
     (chain-returns t)
-    (chain-span-at-requires t)
+    (chain-link-requires t)
     (chain-add-stop t)
     (chain-add-c t)
     (chain-loop-holds t)
     (chain-branch-requires t)
     (chain-join-requires t)
-    (chain-span-at-requires-2 t)
+    (chain-link-requires-2 t)
     (chain-add-c-2 t)
     (chain-loop-less t)
     (chain-loop-again t)

@@ -23,15 +23,15 @@ put-label-requires c κs =
     let (R, le, f) = s .pre in
     (omega (arith, R .within, R .rows .codes), R .rows .labels (s .args .u) (R .within), own-label R _ _ (s .args .room .now) le f)
 
-span-at-requires : tie.Need-span-at-requires Inv-loop μ-loop
-span-at-requires c κs =
+link-requires : tie.Need-link-requires Inv-loop μ-loop
+link-requires c κs =
     let s = c .before .before .before .before .before .before .before .before in
     let R = s .pre .0 in omega (arith, R .within, R .rows .spans)
 
 add-stop : tie.Need-add-stop Inv-loop μ-loop
 add-stop c =
     let s = c .before .before .before .before .before .before .before .before .before in
-    let R = s .pre .0 in omega (arith, R .within, R .rows .few, c .span-at .ensures .1)
+    let R = s .pre .0 in omega (arith, R .within, R .rows .few, c .link .ensures .1)
 
 add-c : tie.Need-add-c Inv-loop μ-loop
 add-c c =
@@ -42,11 +42,11 @@ loop-holds : tie.Need-loop-holds Inv-loop μ-loop
 loop-holds c =
     let s = c .before .before .before .before .before .before .before .before .before in
     let put-label = c .before .before .before .put-label in
-    let span-at = c .span-at in
+    let link = c .link in
     let (R, le, f) = s .pre in (
       omega arith,
-      rw (span-at .ensures .0) refl,
-      rw (span-at .ensures .0) (own-start R _ _ (s .args .room .now) le (put-label .ensures)),
+      rw (link .ensures .0) refl,
+      rw (link .ensures .0) (own-start R _ _ (s .args .room .now) le (put-label .ensures)),
       own-rest R _ _ (s .args .room .now) le (put-label .ensures) f,
     )
 
@@ -58,8 +58,8 @@ put-off-requires c κs =
     let (uc, es, O, f) = l .inv in
     (row-in (s .pre .0) (l .c) (omega (arith, test .taken)), off-fits O (test .taken) f)
 
-span-at-requires-2 : tie.Need-span-at-requires-2 Inv-loop μ-loop
-span-at-requires-2 c κs =
+link-requires-2 : tie.Need-link-requires-2 Inv-loop μ-loop
+link-requires-2 c κs =
     let s = c .before .before .before .before .before .before .before .before .before .before .before .before .before .before .before in
     let l = c .before .before .before .before .before .loop in
     let test = c .before .before .before .before .loop-test in
@@ -74,7 +74,7 @@ add-c-2 c =
     let test = c .before .before .before .before .before .loop-test in
     let R = s .pre .0 in
     let o = row-open R .inside in
-    omega (arith, l .inv .1, test .taken, R .rows .few, c .span-at2 .ensures .1)
+    omega (arith, l .inv .1, test .taken, R .rows .few, c .link2 .ensures .1)
 
 loop-less : tie.Need-loop-less Inv-loop μ-loop
 loop-less c =
@@ -83,7 +83,7 @@ loop-less c =
     let test = c .before .before .before .before .before .loop-test in
     let (uc, es, O, f) = l .inv in
     let b = row-below (s .pre .0) (l .c) uc (omega (arith, test .taken)) in
-    omega (arith, b .0, c .span-at2 .ensures .0, test .taken)
+    omega (arith, b .0, c .link2 .ensures .0, test .taken)
 
 loop-again : tie.Need-loop-again Inv-loop μ-loop
 loop-again c =
@@ -91,7 +91,7 @@ loop-again c =
     let test = c .before .before .before .before .before .loop-test in
     let put-off = c .before .before .before .put-off in
     let (uc, es, O, f) = l .inv in
-    (omega arith, es, rw (c .span-at2 .ensures .0) (off-next O (test .taken) (put-off .ensures)), f)
+    (omega arith, es, rw (c .link2 .ensures .0) (off-next O (test .taken) (put-off .ensures)), f)
 
 same-length : tie.Need-same-length Inv-loop μ-loop
 same-length c =
@@ -114,12 +114,12 @@ own-spec =
     Inv-loop
     μ-loop
     put-label-requires
-    span-at-requires
+    link-requires
     add-stop
     add-c
     loop-holds
     put-off-requires
-    span-at-requires-2
+    link-requires-2
     add-c-2
     loop-less
     loop-again

@@ -35,13 +35,13 @@ folds-onto-requires : tie.Need-folds-onto-requires Inv-loop μ-loop Inv-pair μ-
 folds-onto-requires c κs =
     let p = c .before .before .before .before .before .before .before .before .before .before .before .before .pre .stand in
     let u = c .before .before .before .before in
-    (rw (u .child-at .ensures) (p _ (u .before .pair-test .taken)), rw (c .child-at2 .ensures) (p _ (c .before .before .loop-test .taken)))
+    (rw (u .link .ensures .0) (p _ (u .before .pair-test .taken)), rw (c .link2 .ensures .0) (p _ (c .before .before .loop-test .taken)))
 
 loop-again : tie.Need-loop-again Inv-loop μ-loop Inv-pair μ-pair
 loop-again c = (
   omega arith,
   below-more _ _ (c .before .before .loop .inv .1)
-      (⊎-elim (λ w n. rw (w .1 .ensures) at (false-onto _ _ _ _ _ _ (w .2 .ensures) (w .3 .left))) (λ w n. absurd (n (w .left))) (c .if1 .came)),
+      (⊎-elim (λ w n. rw (w .1 .ensures .0) at (false-onto _ _ _ _ _ _ (w .2 .ensures) (w .3 .left))) (λ w n. absurd (n (w .left))) (c .if1 .came)),
 )
 
 pair-again : tie.Need-pair-again Inv-loop μ-loop Inv-pair μ-pair
@@ -50,7 +50,7 @@ pair-again c =
     let w = c .before .loop .inv .1 in (
       omega (arith, v .0),
       omega (arith, c .before .before .before .pair-test .taken),
-      below-more _ _ (v .2) (λ l f. w (f .0) (omega (arith, f .1)) (f .2) (rw (c .before .before .child-at .ensures) (f .3))),
+      below-more _ _ (v .2) (λ l f. w (f .0) (omega (arith, f .1)) (f .2) (rw (c .before .before .link .ensures .0) (f .3))),
     )
 
 returns : tie.Need-returns Inv-loop μ-loop Inv-pair μ-pair
@@ -69,7 +69,7 @@ returns-2 c =
         _,
         c .before .before .before .before .loop-test .taken,
         c .before .before .before .if1 .taken,
-        rw (c .before .before .before .before .before .before .child-at .ensures, c .before .before .child-at2 .ensures)
+        rw (c .before .before .before .before .before .before .link .ensures .0, c .before .before .link2 .ensures .0)
             at (true-onto _ _ _ _ _ _ (c .before .folds-onto .ensures) (c .if2 .taken)),
       );
     }

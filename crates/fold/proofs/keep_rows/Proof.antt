@@ -28,8 +28,8 @@ shared-slice-read-if1 c =
     let s = c .before .before .before .before .before .before .before .before .before in
     omega (arith, c .before .loop-test .taken, s .pre .0 .ups)
 
-span-at-requires : tie.Need-span-at-requires Inv-loop μ-loop
-span-at-requires c κs =
+link-requires : tie.Need-link-requires Inv-loop μ-loop
+link-requires c κs =
     let s = c .before .before .before .before .before .before .before .before .before .before in
     omega (arith, c .before .before .loop-test .taken, s .pre .0 .rows .spans)
 
@@ -38,21 +38,21 @@ add-i c =
     let s = c .before .before .before .before .before .before .before .before .before .before .before in
     let loop = c .before .before .before .before .loop in
     let loop-test = c .before .before .before .loop-test in
-    omega (arith, moving-step (s .pre .0) (loop .inv .0) (loop-test .taken) (c .span-at .ensures), s .pre .0 .rows .few)
+    omega (arith, moving-step (s .pre .0) (loop .inv .0) (loop-test .taken) (c .link .ensures .0), s .pre .0 .rows .few)
 
 loop-less : tie.Need-loop-less Inv-loop μ-loop
 loop-less c =
     let s = c .before .before .before .before .before .before .before .before .before .before .before in
     let loop = c .before .before .before .before .loop in
     let loop-test = c .before .before .before .loop-test in
-    omega (arith, moving-step (s .pre .0) (loop .inv .0) (loop-test .taken) (c .span-at .ensures))
+    omega (arith, moving-step (s .pre .0) (loop .inv .0) (loop-test .taken) (c .link .ensures .0))
 
 loop-again : tie.Need-loop-again Inv-loop μ-loop
 loop-again c =
     let s = c .before .before .before .before .before .before .before .before .before .before .before in
     let loop = c .before .before .before .before .loop in
     let loop-test = c .before .before .before .loop-test in
-    (moving-skip (s .pre .0) (loop .inv .0) (loop-test .taken) (c .before .if1 .taken) (c .span-at .ensures), loop .inv .1, loop .inv .2)
+    (moving-skip (s .pre .0) (loop .inv .0) (loop-test .taken) (c .before .if1 .taken) (c .link .ensures .0), loop .inv .1, loop .inv .2)
 
 move-row-requires : tie.Need-move-row-requires Inv-loop μ-loop
 move-row-requires c κs =
@@ -115,7 +115,7 @@ keep-rows-spec =
     loop-holds
     mul-if1
     shared-slice-read-if1
-    span-at-requires
+    link-requires
     add-i
     loop-less
     loop-again

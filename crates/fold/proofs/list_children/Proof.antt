@@ -23,25 +23,25 @@ abbrev μ-loop : tie.MeasureT-loop
 loop-holds : tie.Need-loop-holds Inv-loop μ-loop
 loop-holds c =
     let h = c .before .before .before .before .pre .held in
-    (refl, omega arith, over-start _ _ _ _ (omega (arith, c .span-at .ensures)) h, list-start _ _ _ _ h)
+    (refl, omega arith, over-start _ _ _ _ (omega (arith, c .link .ensures .0)) h, list-start _ _ _ _ h)
 
 add-c-2 : tie.Need-add-c-2 Inv-loop μ-loop
 add-c-2 c =
     let h = c .before .before .before .before in
-    let z = over-step (h .loop .inv .2) (c .before .before .before .loop-test .taken) (c .span-at2 .ensures) in
+    let z = over-step (h .loop .inv .2) (c .before .before .before .loop-test .taken) (c .link2 .ensures .0) in
     omega (arith, h .before .before .before .before .before .pre .few, h .loop .inv .2 .ends, z)
 
 loop-less : tie.Need-loop-less Inv-loop μ-loop
 loop-less c =
     let h = c .before .before .before .before in
-    omega (arith, over-step (h .loop .inv .2) (c .before .before .before .loop-test .taken) (c .span-at2 .ensures))
+    omega (arith, over-step (h .loop .inv .2) (c .before .before .before .loop-test .taken) (c .link2 .ensures .0))
 
 loop-again : tie.Need-loop-again Inv-loop μ-loop
 loop-again c =
     let h = c .before .before .before .before in
     let v = h .loop .inv in
     let t = c .before .before .before .loop-test .taken in
-    let d = c .span-at2 .ensures in
+    let d = c .link2 .ensures .0 in
     let z = over-step (v .2) t d in
     let o = over-next (v .2) t d tt in
     let r = c .before .before .is-child .ensures in

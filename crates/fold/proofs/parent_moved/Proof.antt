@@ -14,17 +14,17 @@ returns c =
 mul-result : tie.Need-mul-result
 mul-result c =
     let s = c .before .before .before .before .before in
-    ⊎-elim (λ e. absurd (c .before .if1 .left e)) (λ l. omega (arith, c .wide .ensures)) (s .pre .1)
+    ⊎-elim (λ e. absurd (c .before .if1 .left e)) (λ l. omega (arith, c .wide .ensures .0)) (s .pre .1)
 
 shared-slice-read-result : tie.Need-shared-slice-read-result
 shared-slice-read-result c =
     let s = c .before .before .before .before .before .before in
-    ⊎-elim (λ e. absurd (c .before .before .if1 .left e)) (λ l. omega (arith, c .before .wide .ensures)) (s .pre .1)
+    ⊎-elim (λ e. absurd (c .before .before .if1 .left e)) (λ l. omega (arith, c .before .wide .ensures .0)) (s .pre .1)
 
 returns-2 : tie.Need-returns-2
 returns-2 c =
     let s = c .before .before .before .before .before .before in
-    parent-row (s .args .up .now) (s .args .moved .now) (s .args .i) (c .before .before .if1 .left) _ (c .before .wide .ensures)
+    parent-row (s .args .up .now) (s .args .moved .now) (s .args .i) (c .before .before .if1 .left) _ (c .before .wide .ensures .0)
 
 pub parent-moved-spec : {M : Type 1} → statement M
 parent-moved-spec =

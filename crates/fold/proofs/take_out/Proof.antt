@@ -5,7 +5,7 @@ use Rattle.fold.proofs.take_out.Statement.{statement}
 use Rattle.fold.proofs.take_out.Tie as tie
 
 returns : tie.Need-returns
-returns c = record { ups = rw (c .before .child-at .ensures); list = refl }
+returns c = record { ups = rw (c .before .link .ensures .0); list = refl }
 
 pub take-out-spec : {M : Type 1} → statement M
 take-out-spec =

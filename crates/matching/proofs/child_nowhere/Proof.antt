@@ -1,6 +1,6 @@
 -- Row u is needed by its children from c on, and none before c is clear.
-use mathlib.Core.Path.{_≡_, sym, _∙_}
-use Prim.Native.Nat.{ℕ, _-_, _≤_, _<_}
+use mathlib.Core.Path.{sym, _∙_}
+use Prim.Native.Nat.{_-_, _≤_, _<_}
 use native.Mathlib.Omega.{arith}
 use Rattle.bits.proofs.Bits.{row-clear}
 use Rattle.rows.proofs.Rows.{row-opens}
@@ -15,17 +15,17 @@ Inv-loop w span n u end c₀ c = (u < c) × (end ≤ n) × Children span u c end
 abbrev μ-loop : tie.MeasureT-loop
 μ-loop w span n u end c₀ c = end - c
 
-link-at-requires : tie.Need-link-at-requires Inv-loop μ-loop
-link-at-requires c κs = omega (arith, c .before .before .pre .2, c .before .before .pre .4)
+link-requires : tie.Need-link-requires Inv-loop μ-loop
+link-requires c κs = omega (arith, c .before .before .pre .2, c .before .before .pre .4)
 
 add-end : tie.Need-add-end Inv-loop μ-loop
-add-end c = let o = row-opens _ _ (c .before .before .before .pre .3) _ (c .before .before .before .pre .4) in omega (arith, c .link-at .ensures, o .inside, c .before .before .before .pre .1)
+add-end c = let o = row-opens _ _ (c .before .before .before .pre .3) _ (c .before .before .before .pre .4) in omega (arith, c .link .ensures .0, o .inside, c .before .before .before .pre .1)
 
 add-c : tie.Need-add-c Inv-loop μ-loop
 add-c c = omega (arith, c .before .before .before .pre .1, c .before .before .before .pre .4)
 
 loop-holds : tie.Need-loop-holds Inv-loop μ-loop
-loop-holds c = let o = row-opens _ _ (c .before .before .before .pre .3) _ (c .before .before .before .pre .4) in (omega arith, omega (arith, c .link-at .ensures, o .inside), rw (c .link-at .ensures) (children-start _ _ _ (c .before .before .before .pre .3) (c .before .before .before .pre .4)))
+loop-holds c = let o = row-opens _ _ (c .before .before .before .pre .3) _ (c .before .before .before .pre .4) in (omega arith, omega (arith, c .link .ensures .0, o .inside), rw (c .link .ensures .0) (children-start _ _ _ (c .before .before .before .pre .3) (c .before .before .before .pre .4)))
 
 row-clear-requires : tie.Need-row-clear-requires Inv-loop μ-loop
 row-clear-requires c κs = (omega (arith, c .before .before .before .before .before .pre .1, c .before .loop .inv .1, c .loop-test .taken), omega (arith, c .before .before .before .before .before .pre .0, c .before .before .before .before .before .pre .1, c .before .loop .inv .1, c .loop-test .taken))
@@ -33,17 +33,17 @@ row-clear-requires c κs = (omega (arith, c .before .before .before .before .bef
 returns : tie.Need-returns Inv-loop μ-loop
 returns c = λ e. (_, c .before .before .before .loop .inv .0, omega (arith, c .before .before .before .loop .inv .1, c .before .before .loop-test .taken), child-needed _ _ _ _ (c .before .before .loop-test .taken) (c .before .before .before .loop .inv .2), row-clear _ _ (sym (c .before .row-clear .ensures) ∙ c .if1 .taken))
 
-link-at-requires-2 : tie.Need-link-at-requires-2 Inv-loop μ-loop
-link-at-requires-2 c κs = omega (arith, c .before .before .before .before .before .before .before .pre .2, c .before .before .before .loop .inv .1, c .before .before .loop-test .taken)
+link-requires-2 : tie.Need-link-requires-2 Inv-loop μ-loop
+link-requires-2 c κs = omega (arith, c .before .before .before .before .before .before .before .pre .2, c .before .before .before .loop .inv .1, c .before .before .loop-test .taken)
 
 add-c-2 : tie.Need-add-c-2 Inv-loop μ-loop
-add-c-2 c = let o = child-span _ _ _ _ (c .before .before .before .loop-test .taken) (c .before .before .before .before .loop .inv .2) in omega (arith, c .link-at2 .ensures, o .1, c .before .before .before .before .loop .inv .1, c .before .before .before .before .before .before .before .before .pre .1)
+add-c-2 c = let o = child-span _ _ _ _ (c .before .before .before .loop-test .taken) (c .before .before .before .before .loop .inv .2) in omega (arith, c .link2 .ensures .0, o .1, c .before .before .before .before .loop .inv .1, c .before .before .before .before .before .before .before .before .pre .1)
 
 loop-less : tie.Need-loop-less Inv-loop μ-loop
-loop-less c = let o = child-span _ _ _ _ (c .before .before .before .loop-test .taken) (c .before .before .before .before .loop .inv .2) in omega (arith, c .link-at2 .ensures, o .0, c .before .before .before .loop-test .taken)
+loop-less c = let o = child-span _ _ _ _ (c .before .before .before .loop-test .taken) (c .before .before .before .before .loop .inv .2) in omega (arith, c .link2 .ensures .0, o .0, c .before .before .before .loop-test .taken)
 
 loop-again : tie.Need-loop-again Inv-loop μ-loop
-loop-again c = (omega (arith, c .before .before .before .before .loop .inv .0), c .before .before .before .before .loop .inv .1, rw (c .link-at2 .ensures) (child-next _ _ _ _ (c .before .before .before .loop-test .taken) (c .before .before .before .before .loop .inv .2)))
+loop-again c = (omega (arith, c .before .before .before .before .loop .inv .0), c .before .before .before .before .loop .inv .1, rw (c .link2 .ensures .0) (child-next _ _ _ _ (c .before .before .before .loop-test .taken) (c .before .before .before .before .loop .inv .2)))
 
 returns-2 : tie.Need-returns-2 Inv-loop μ-loop
 returns-2 c = λ e. never cc
@@ -54,13 +54,13 @@ child-nowhere-spec =
     (tie.spec
     Inv-loop
     μ-loop
-    link-at-requires
+    link-requires
     add-end
     add-c
     loop-holds
     row-clear-requires
     returns
-    link-at-requires-2
+    link-requires-2
     add-c-2
     loop-less
     loop-again

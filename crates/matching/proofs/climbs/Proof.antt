@@ -24,19 +24,19 @@ can-climb-requires c κs = let b = bounds _ _ _ _ (c .before .before .before .be
 returns : tie.Need-returns Inv-loop μ-loop
 returns c = climbed-not _ _ _ _ _ _ _ (c .before .before .before .loop .inv .1) (c .before .before .before .loop .inv .0) (c .before .before .loop-test .taken) (λ s. true-false (sym (c .before .can-climb .ensures .1 s) ∙ not-true _ (c .if1 .taken)))
 
-link-at-requires : tie.Need-link-at-requires Inv-loop μ-loop
-link-at-requires c κs = bounds _ _ _ _ (c .before .before .before .before .before .before .before .pre .1) (c .before .before .before .loop .c) (c .before .before .before .loop .y) (c .before .before .before .loop .inv .1 _ (c .before .before .before .before .before .before .before .pre .1) (c .before .before .before .before .before .before .before .pre .2) .0) (c .before .before .before .loop .inv .0) .link
+link-requires : tie.Need-link-requires Inv-loop μ-loop
+link-requires c κs = bounds _ _ _ _ (c .before .before .before .before .before .before .before .pre .1) (c .before .before .before .loop .c) (c .before .before .before .loop .y) (c .before .before .before .loop .inv .1 _ (c .before .before .before .before .before .before .before .pre .1) (c .before .before .before .before .before .before .before .pre .2) .0) (c .before .before .before .loop .inv .0) .link
 
 parent-at-requires : tie.Need-parent-at-requires Inv-loop μ-loop
 parent-at-requires c κs = c .before .before .before .before .loop .inv .0
 
 loop-less : tie.Need-loop-less Inv-loop μ-loop
-loop-less c = omega (arith, c .before .link-at .ensures, up-less _ _ _ _ (c .before .before .before .before .before .before .before .before .before .pre .1) (c .before .before .before .before .before .loop .c) (c .before .before .before .before .loop-test .taken) (c .before .before .before .before .before .loop .inv .1 _ (c .before .before .before .before .before .before .before .before .before .pre .1) (c .before .before .before .before .before .before .before .before .before .pre .2) .0))
+loop-less c = omega (arith, c .before .link .ensures .0, up-less _ _ _ _ (c .before .before .before .before .before .before .before .before .before .pre .1) (c .before .before .before .before .before .loop .c) (c .before .before .before .before .loop-test .taken) (c .before .before .before .before .before .loop .inv .1 _ (c .before .before .before .before .before .before .before .before .before .pre .1) (c .before .before .before .before .before .before .before .before .before .pre .2) .0))
 
 loop-again : tie.Need-loop-again Inv-loop μ-loop
 loop-again c = (
   omega (arith, c .parent-at .ensures, parent-node _ _ _ _ (c .before .before .before .before .before .before .before .before .before .pre .1) (c .before .before .before .before .before .loop .y) (c .before .before .before .before .before .loop .inv .0)),
-  rw (c .before .link-at .ensures, c .parent-at .ensures) (climbed-more _ _ _ _ _ _ _ (c .before .before .before .before .before .loop .inv .1) (c .before .before .before .before .before .loop .inv .0) (c .before .before .before .before .loop-test .taken) (c .before .before .before .can-climb .ensures .0 (not-false _ (c .before .before .if1 .left)))),
+  rw (c .before .link .ensures .0, c .parent-at .ensures) (climbed-more _ _ _ _ _ _ _ (c .before .before .before .before .before .loop .inv .1) (c .before .before .before .before .before .loop .inv .0) (c .before .before .before .before .loop-test .taken) (c .before .before .before .can-climb .ensures .0 (not-false _ (c .before .before .if1 .left)))),
 )
 
 test-bit-requires : tie.Need-test-bit-requires Inv-loop μ-loop
@@ -54,7 +54,7 @@ climbs-spec =
     loop-holds
     can-climb-requires
     returns
-    link-at-requires
+    link-requires
     parent-at-requires
     loop-less
     loop-again

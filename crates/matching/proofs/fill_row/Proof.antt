@@ -28,11 +28,11 @@ label-row-requires c κs =
     let G = good-table _ _ (c .before .before .before .before .before .before .before .pre .table) in
     (omega (arith, c .before .before .before .before .before .before .before .pre .row, c .before .before .before .before .before .before .before .pre .query .few), omega (arith, c .before .before .before .before .before .before .before .pre .row, c .before .before .before .before .before .before .before .pre .query .few, c .before .before .before .before .before .before .before .pre .room), omega (arith, G .few, G .labels), c .before .before .before .before .before .before .before .pre .clear)
 
-link-at-requires : tie.Need-link-at-requires Inv-loop μ-loop
-link-at-requires c κs = omega (arith, c .before .before .before .before .before .before .before .before .before .before .pre .row, c .before .before .before .before .before .before .before .before .before .before .pre .query .spans)
+link-requires : tie.Need-link-requires Inv-loop μ-loop
+link-requires c κs = omega (arith, c .before .before .before .before .before .before .before .before .before .before .pre .row, c .before .before .before .before .before .before .before .before .before .before .pre .query .spans)
 
 add-end : tie.Need-add-end Inv-loop μ-loop
-add-end c = let o = row-opens _ _ (c .before .before .before .before .before .before .before .before .before .before .before .pre .query .laid) _ (c .before .before .before .before .before .before .before .before .before .before .before .pre .row) in omega (arith, c .link-at .ensures, o .inside, c .before .before .before .before .before .before .before .before .before .before .before .pre .query .few)
+add-end c = let o = row-opens _ _ (c .before .before .before .before .before .before .before .before .before .before .before .pre .query .laid) _ (c .before .before .before .before .before .before .before .before .before .before .before .pre .row) in omega (arith, c .link .ensures .0, o .inside, c .before .before .before .before .before .before .before .before .before .before .before .pre .query .few)
 
 add-c : tie.Need-add-c Inv-loop μ-loop
 add-c c = omega (arith, c .before .before .before .before .before .before .before .before .before .before .before .pre .row, c .before .before .before .before .before .before .before .before .before .before .before .pre .query .few)
@@ -41,10 +41,10 @@ loop-holds : tie.Need-loop-holds Inv-loop μ-loop
 loop-holds c =
     let o = row-opens _ _ (c .before .before .before .before .before .before .before .before .before .before .before .pre .query .laid) _ (c .before .before .before .before .before .before .before .before .before .before .before .pre .row) in (
       omega arith,
-      omega (arith, c .link-at .ensures, o .inside),
+      omega (arith, c .link .ensures .0, o .inside),
       only-refl _ _,
       rows-kept (c .before .before .before .before .before .before .before .before .before .before .before .args .code .now) (c .before .before .before .before .before .before .before .before .before .before .before .args .span .now) _ _ (c .before .before .before .before .before .before .before .before .before .before .before .pre .table) _ _ _ _ (c .before .before .before .label-row .ensures .only) (c .before .before .before .before .before .before .before .before .before .before .before .pre .behind),
-      rw (c .link-at .ensures) (partly-start _ _ _ _ (c .before .before .before .before .before .before .before .before .before .before .before .pre .table) _ _ (c .before .before .before .before .before .before .before .before .before .before .before .pre .query) (c .before .before .before .before .before .before .before .before .before .before .before .pre .row) _ _ (c .before .before .before .label-row .ensures)),
+      rw (c .link .ensures .0) (partly-start _ _ _ _ (c .before .before .before .before .before .before .before .before .before .before .before .pre .table) _ _ (c .before .before .before .before .before .before .before .before .before .before .before .pre .query) (c .before .before .before .before .before .before .before .before .before .before .before .pre .row) _ _ (c .before .before .before .label-row .ensures)),
       λ x l t. let G = good-table _ _ (c .before .before .before .before .before .before .before .before .before .before .before .pre .table) in let s = c .before .before .before .label-row .ensures .bits x l .0 t in omega (arith, s .0, G .labels),
     )
 
@@ -68,14 +68,14 @@ keep-parents-requires c κs =
       c .before .before .before .before .before .loop .inv .5,
     )
 
-link-at-requires-2 : tie.Need-link-at-requires-2 Inv-loop μ-loop
-link-at-requires-2 c κs = omega (arith, c .before .before .before .before .before .before .before .before .before .before .before .before .before .before .before .before .before .before .before .before .pre .query .spans, c .before .before .before .before .before .before .before .before .loop .inv .1, c .before .before .before .before .before .before .before .loop-test .taken)
+link-requires-2 : tie.Need-link-requires-2 Inv-loop μ-loop
+link-requires-2 c κs = omega (arith, c .before .before .before .before .before .before .before .before .before .before .before .before .before .before .before .before .before .before .before .before .pre .query .spans, c .before .before .before .before .before .before .before .before .loop .inv .1, c .before .before .before .before .before .before .before .loop-test .taken)
 
 add-c-2 : tie.Need-add-c-2 Inv-loop μ-loop
-add-c-2 c = let o = partly-next _ _ _ _ _ _ _ _ (c .before .before .before .before .before .before .before .before .loop-test .taken) (c .before .before .before .before .before .before .before .before .before .loop .inv .4) in omega (arith, c .link-at2 .ensures, o .1, c .before .before .before .before .before .before .before .before .before .loop .inv .1, c .before .before .before .before .before .before .before .before .before .before .before .before .before .before .before .before .before .before .before .before .before .pre .query .few)
+add-c-2 c = let o = partly-next _ _ _ _ _ _ _ _ (c .before .before .before .before .before .before .before .before .loop-test .taken) (c .before .before .before .before .before .before .before .before .before .loop .inv .4) in omega (arith, c .link2 .ensures .0, o .1, c .before .before .before .before .before .before .before .before .before .loop .inv .1, c .before .before .before .before .before .before .before .before .before .before .before .before .before .before .before .before .before .before .before .before .before .pre .query .few)
 
 loop-less : tie.Need-loop-less Inv-loop μ-loop
-loop-less c = let o = partly-next _ _ _ _ _ _ _ _ (c .before .before .before .before .before .before .before .before .loop-test .taken) (c .before .before .before .before .before .before .before .before .before .loop .inv .4) in omega (arith, c .link-at2 .ensures, o .0, c .before .before .before .before .before .before .before .before .loop-test .taken)
+loop-less c = let o = partly-next _ _ _ _ _ _ _ _ (c .before .before .before .before .before .before .before .before .loop-test .taken) (c .before .before .before .before .before .before .before .before .before .loop .inv .4) in omega (arith, c .link2 .ensures .0, o .0, c .before .before .before .before .before .before .before .before .loop-test .taken)
 
 loop-again : tie.Need-loop-again Inv-loop μ-loop
 loop-again c =
@@ -84,7 +84,7 @@ loop-again c =
       c .before .before .before .before .before .before .before .before .before .loop .inv .1,
       only-then _ _ _ _ (c .before .before .before .before .before .before .before .before .before .loop .inv .2) (c .before .before .before .keep-parents .ensures .only),
       rows-kept (c .before .before .before .before .before .before .before .before .before .before .before .before .before .before .before .before .before .before .before .before .before .args .code .now) (c .before .before .before .before .before .before .before .before .before .before .before .before .before .before .before .before .before .before .before .before .before .args .span .now) _ _ (c .before .before .before .before .before .before .before .before .before .before .before .before .before .before .before .before .before .before .before .before .before .pre .table) _ _ _ _ (c .before .before .before .keep-parents .ensures .only) (c .before .before .before .before .before .before .before .before .before .loop .inv .3),
-      rw (c .link-at2 .ensures) (partly-turn _ _ _ _ (c .before .before .before .before .before .before .before .before .before .before .before .before .before .before .before .before .before .before .before .before .before .pre .table) _ _ _ (c .before .before .before .before .before .before .before .before .loop-test .taken) _ _ (λ x lx. c .before .before .before .before .before .before .before .before .before .loop .inv .3 (c .before .before .before .before .before .before .before .before .before .loop .c) x (omega (arith, c .before .before .before .before .before .before .before .before .before .loop .inv .0)) (omega (arith, c .before .before .before .before .before .before .before .before .before .loop .inv .1, c .before .before .before .before .before .before .before .before .loop-test .taken)) lx) (c .before .before .before .keep-parents .ensures) (c .before .before .before .before .before .before .before .before .before .loop .inv .4)),
+      rw (c .link2 .ensures .0) (partly-turn _ _ _ _ (c .before .before .before .before .before .before .before .before .before .before .before .before .before .before .before .before .before .before .before .before .before .pre .table) _ _ _ (c .before .before .before .before .before .before .before .before .loop-test .taken) _ _ (λ x lx. c .before .before .before .before .before .before .before .before .before .loop .inv .3 (c .before .before .before .before .before .before .before .before .before .loop .c) x (omega (arith, c .before .before .before .before .before .before .before .before .before .loop .inv .0)) (omega (arith, c .before .before .before .before .before .before .before .before .before .loop .inv .1, c .before .before .before .before .before .before .before .before .loop-test .taken)) lx) (c .before .before .before .keep-parents .ensures) (c .before .before .before .before .before .before .before .before .before .loop .inv .4)),
       λ x l t. c .before .before .before .before .before .before .before .before .before .loop .inv .5 x l (c .before .before .before .keep-parents .ensures .bits x l .0 t .0),
     )
 
@@ -103,7 +103,7 @@ fill-row-spec =
     mul-label-row
     shared-slice-read-label-row
     label-row-requires
-    link-at-requires
+    link-requires
     add-end
     add-c
     loop-holds
@@ -111,7 +111,7 @@ fill-row-spec =
     same-length
     returns
     keep-parents-requires
-    link-at-requires-2
+    link-requires-2
     add-c-2
     loop-less
     loop-again

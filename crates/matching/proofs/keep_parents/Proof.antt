@@ -1,13 +1,14 @@
 -- No flag is set at first, so the flags are the parents.
 use native.Mathlib.Omega.{arith}
 use lib.ListN.{getD-replicate}
+use Rattle.meaning.specs.Limits.{mostRows}
 use Rattle.matching.proofs.Kinship.{kept}
 use borrow.Author.Needs.{needs}
 use Rattle.matching.proofs.keep_parents.Statement.{statement}
 use Rattle.matching.proofs.keep_parents.Tie as tie
 
 returns : tie.Need-returns
-returns c = kept _ _ _ _ _ _ _ (λ i l. getD-replicate 1024 i 0 0 l) (λ v l t. let z = c .before .before .before .before .before .before .before .before .before .before .before .pre .5 v l t in omega arith) (c .before .before .before .before .before .before .mark-row .ensures) (c .before .before .meet .ensures)
+returns c = kept _ _ _ _ _ _ _ (λ i l. getD-replicate mostRows i 0 0 l) (λ v l t. let z = c .before .before .before .before .before .before .before .before .before .before .before .pre .5 v l t in omega arith) (c .before .before .before .before .before .before .mark-row .ensures) (c .before .before .meet .ensures)
 
 pub keep-parents-spec : {M : Type 1} → statement M
 keep-parents-spec =

@@ -5,8 +5,7 @@ use native.Mathlib.Omega.{arith}
 use lib.ListN.{length}
 use borrow.Author.Tests.{not-true, not-false}
 use Rattle.matching.proofs.Labels.{true-false}
-use Rattle.matching.proofs.Marks.{s-somewhere, d-somewhere}
-use Rattle.matching.proofs.Pair.{bounds, up-less, parent-node, Meeting, meeting-none, meeting-more, meeting-not, meeting-more-d, meeting-not-d, meeting-apart, meeting-all}
+use Rattle.matching.proofs.Pair.{borne-s, borne-d, bounds, up-less, parent-node, Meeting, meeting-none, meeting-more, meeting-not, meeting-more-d, meeting-not-d, meeting-apart, meeting-all}
 use Rattle.matching.proofs.pair_selected.Statement.{statement}
 use Rattle.matching.proofs.pair_selected.Tie as tie
 
@@ -17,10 +16,10 @@ abbrev μ-loop : tie.MeasureT-loop
 μ-loop workspace mark up parents m n u₀ v₀ x₀ y₀ u v x y = u + v
 
 row-of-requires : tie.Need-row-of-requires Inv-loop μ-loop
-row-of-requires c κs = s-somewhere _ _ _ _ (c .before .before .before .before .pre .0)
+row-of-requires c κs = (omega arith, borne-s _ _ _ _ (c .before .before .before .before .pre .0))
 
 row-of-requires-2 : tie.Need-row-of-requires-2 Inv-loop μ-loop
-row-of-requires-2 c κs = d-somewhere _ _ _ _ (c .before .before .before .before .before .pre .0)
+row-of-requires-2 c κs = (omega arith, borne-d _ _ _ _ (c .before .before .before .before .before .pre .0))
 
 loop-holds : tie.Need-loop-holds Inv-loop μ-loop
 loop-holds c = (c .before .before .before .before .before .before .pre .1, c .before .before .before .before .before .before .pre .2, meeting-none _ _ _ _ _ _ _ _ (c .before .row-of .ensures) (c .row-of2 .ensures))
@@ -31,20 +30,20 @@ can-climb-requires c κs = let b = bounds _ _ _ _ (c .before .before .before .be
 returns : tie.Need-returns Inv-loop μ-loop
 returns c = meeting-not _ _ _ _ _ _ _ _ _ _ (c .before .before .before .before .loop .inv .2) (c .before .before .if1 .taken) (c .before .before .before .before .loop .inv .0) (λ s. true-false (sym (c .before .can-climb .ensures .1 s) ∙ not-true _ (c .if2 .taken)))
 
-link-at-requires : tie.Need-link-at-requires Inv-loop μ-loop
-link-at-requires c κs = bounds _ _ _ _ (c .before .before .before .before .before .before .before .before .before .before .before .pre .0) (c .before .before .before .before .loop .u) (c .before .before .before .before .loop .x) (c .before .before .before .before .loop .inv .2 (c .before .before .before .before .before .before .before .before .before .before .before .pre .0) .0) (c .before .before .before .before .loop .inv .0) .link
+link-requires : tie.Need-link-requires Inv-loop μ-loop
+link-requires c κs = bounds _ _ _ _ (c .before .before .before .before .before .before .before .before .before .before .before .pre .0) (c .before .before .before .before .loop .u) (c .before .before .before .before .loop .x) (c .before .before .before .before .loop .inv .2 (c .before .before .before .before .before .before .before .before .before .before .before .pre .0) .0) (c .before .before .before .before .loop .inv .0) .link
 
 parent-at-requires : tie.Need-parent-at-requires Inv-loop μ-loop
 parent-at-requires c κs = c .before .before .before .before .before .loop .inv .0
 
 loop-less : tie.Need-loop-less Inv-loop μ-loop
-loop-less c = omega (arith, c .before .link-at .ensures, up-less _ _ _ _ (c .before .before .before .before .before .before .before .before .before .before .before .before .before .pre .0) (c .before .before .before .before .before .before .loop .u) (omega (arith, c .before .before .before .before .if1 .taken)) (c .before .before .before .before .before .before .loop .inv .2 (c .before .before .before .before .before .before .before .before .before .before .before .before .before .pre .0) .0))
+loop-less c = omega (arith, c .before .link .ensures .0, up-less _ _ _ _ (c .before .before .before .before .before .before .before .before .before .before .before .before .before .pre .0) (c .before .before .before .before .before .before .loop .u) (omega (arith, c .before .before .before .before .if1 .taken)) (c .before .before .before .before .before .before .loop .inv .2 (c .before .before .before .before .before .before .before .before .before .before .before .before .before .pre .0) .0))
 
 loop-again : tie.Need-loop-again Inv-loop μ-loop
 loop-again c = (
   omega (arith, c .parent-at .ensures, parent-node _ _ _ _ (c .before .before .before .before .before .before .before .before .before .before .before .before .before .pre .0) (c .before .before .before .before .before .before .loop .x) (c .before .before .before .before .before .before .loop .inv .0)),
   c .before .before .before .before .before .before .loop .inv .1,
-  rw (c .before .link-at .ensures, c .parent-at .ensures) (meeting-more _ _ _ _ _ _ _ _ _ _ (c .before .before .before .before .before .before .loop .inv .2) (c .before .before .before .before .if1 .taken) (c .before .before .before .before .before .before .loop .inv .0) (c .before .before .before .can-climb .ensures .0 (not-false _ (c .before .before .if2 .left)))),
+  rw (c .before .link .ensures .0, c .parent-at .ensures) (meeting-more _ _ _ _ _ _ _ _ _ _ (c .before .before .before .before .before .before .loop .inv .2) (c .before .before .before .before .if1 .taken) (c .before .before .before .before .before .before .loop .inv .0) (c .before .before .before .can-climb .ensures .0 (not-false _ (c .before .before .if2 .left)))),
 )
 
 can-climb-requires-2 : tie.Need-can-climb-requires-2 Inv-loop μ-loop
@@ -53,20 +52,20 @@ can-climb-requires-2 c κs = let b = bounds _ _ _ _ (c .before .before .before .
 returns-2 : tie.Need-returns-2 Inv-loop μ-loop
 returns-2 c = meeting-not-d _ _ _ _ _ _ (c .before .before .before .before .loop .u) _ (c .before .before .before .before .loop .v) _ (c .before .before .before .before .loop .inv .2) (omega (arith, c .before .before .if1 .left, c .before .before .before .loop-test .taken)) (c .before .before .before .before .loop .inv .1) (λ s. true-false (sym (c .before .can-climb2 .ensures .1 s) ∙ not-true _ (c .if3 .taken)))
 
-link-at-requires-2 : tie.Need-link-at-requires-2 Inv-loop μ-loop
-link-at-requires-2 c κs = bounds _ _ _ _ (c .before .before .before .before .before .before .before .before .before .before .before .pre .0) (c .before .before .before .before .loop .v) (c .before .before .before .before .loop .y) (c .before .before .before .before .loop .inv .2 (c .before .before .before .before .before .before .before .before .before .before .before .pre .0) .1) (c .before .before .before .before .loop .inv .1) .link
+link-requires-2 : tie.Need-link-requires-2 Inv-loop μ-loop
+link-requires-2 c κs = bounds _ _ _ _ (c .before .before .before .before .before .before .before .before .before .before .before .pre .0) (c .before .before .before .before .loop .v) (c .before .before .before .before .loop .y) (c .before .before .before .before .loop .inv .2 (c .before .before .before .before .before .before .before .before .before .before .before .pre .0) .1) (c .before .before .before .before .loop .inv .1) .link
 
 parent-at-requires-2 : tie.Need-parent-at-requires-2 Inv-loop μ-loop
 parent-at-requires-2 c κs = c .before .before .before .before .before .loop .inv .1
 
 loop-less-2 : tie.Need-loop-less-2 Inv-loop μ-loop
-loop-less-2 c = omega (arith, c .before .link-at2 .ensures, up-less _ _ _ _ (c .before .before .before .before .before .before .before .before .before .before .before .before .before .pre .0) (c .before .before .before .before .before .before .loop .v) (omega (arith, c .before .before .before .before .if1 .left, c .before .before .before .before .before .loop-test .taken)) (c .before .before .before .before .before .before .loop .inv .2 (c .before .before .before .before .before .before .before .before .before .before .before .before .before .pre .0) .1))
+loop-less-2 c = omega (arith, c .before .link2 .ensures .0, up-less _ _ _ _ (c .before .before .before .before .before .before .before .before .before .before .before .before .before .pre .0) (c .before .before .before .before .before .before .loop .v) (omega (arith, c .before .before .before .before .if1 .left, c .before .before .before .before .before .loop-test .taken)) (c .before .before .before .before .before .before .loop .inv .2 (c .before .before .before .before .before .before .before .before .before .before .before .before .before .pre .0) .1))
 
 loop-again-2 : tie.Need-loop-again-2 Inv-loop μ-loop
 loop-again-2 c = (
   c .before .before .before .before .before .before .loop .inv .0,
   omega (arith, c .parent-at2 .ensures, parent-node _ _ _ _ (c .before .before .before .before .before .before .before .before .before .before .before .before .before .pre .0) (c .before .before .before .before .before .before .loop .y) (c .before .before .before .before .before .before .loop .inv .1)),
-  rw (c .before .link-at2 .ensures, c .parent-at2 .ensures) (meeting-more-d _ _ _ _ _ _ (c .before .before .before .before .before .before .loop .u) _ (c .before .before .before .before .before .before .loop .v) _ (c .before .before .before .before .before .before .loop .inv .2) (omega (arith, c .before .before .before .before .if1 .left, c .before .before .before .before .before .loop-test .taken)) (c .before .before .before .before .before .before .loop .inv .1) (c .before .before .before .can-climb2 .ensures .0 (not-false _ (c .before .before .if3 .left)))),
+  rw (c .before .link2 .ensures .0, c .parent-at2 .ensures) (meeting-more-d _ _ _ _ _ _ (c .before .before .before .before .before .before .loop .u) _ (c .before .before .before .before .before .before .loop .v) _ (c .before .before .before .before .before .before .loop .inv .2) (omega (arith, c .before .before .before .before .if1 .left, c .before .before .before .before .before .loop-test .taken)) (c .before .before .before .before .before .before .loop .inv .1) (c .before .before .before .can-climb2 .ensures .0 (not-false _ (c .before .before .if3 .left)))),
 )
 
 returns-3 : tie.Need-returns-3 Inv-loop μ-loop
@@ -89,13 +88,13 @@ pair-selected-spec =
     loop-holds
     can-climb-requires
     returns
-    link-at-requires
+    link-requires
     parent-at-requires
     loop-less
     loop-again
     can-climb-requires-2
     returns-2
-    link-at-requires-2
+    link-requires-2
     parent-at-requires-2
     loop-less-2
     loop-again-2

@@ -1,0 +1,89 @@
+-- The top has its label alone; another row is on a way, a branch of its own, or goes on with a chain.
+use mathlib.Core.Path.{sym, ap, _∙_}
+use Prim.Native.Nat.{ℕ, _+_}
+use native.Mathlib.Omega.{arith}
+use Rattle.rows.proofs.Rows.{row-up}
+use Rattle.normal.proofs.Counting.{row-top, row-way, row-branch, row-chain}
+use Rattle.normal.proofs.weight.row_weight.Statement.{statement}
+use Rattle.normal.proofs.weight.row_weight.Tie as tie
+
+mul-label-weight : tie.Need-mul-label-weight
+mul-label-weight c = let s = c .before .before .before .before in omega (arith, s .pre .within, s .pre .rows .few)
+
+shared-slice-read-label-weight : tie.Need-shared-slice-read-label-weight
+shared-slice-read-label-weight c = let s = c .before .before .before .before .before in omega (arith, s .pre .within, s .pre .rows .codes)
+
+label-weight-requires : tie.Need-label-weight-requires
+label-weight-requires c κs = let s = c .before .before .before .before .before in s .pre .rows .labels _ (s .pre .within)
+
+returns : tie.Need-returns
+returns c =
+    let label = c .before .label-weight .ensures in
+    (label .0 ∙ sym (row-top _ _ _ _ _ _ _ (c .if1 .taken)), omega (arith, label .1))
+
+on-way-requires : tie.Need-on-way-requires
+on-way-requires c κs =
+    let s = c .before .before .before .before .before .before .before in
+    (omega (arith, s .pre .within, s .pre .rows .spans), omega (arith, s .pre .within, s .pre .rows .few))
+
+add-result : tie.Need-add-result
+add-result c = omega (arith, c .before .before .before .label-weight .ensures .1)
+
+returns-2 : tie.Need-returns-2
+returns-2 c =
+    let label = c .before .before .before .label-weight .ensures in
+    let way = sym (c .before .on-way .ensures) ∙ c .if2 .taken in
+    (ap (λ (m : ℕ). m + 2) (label .0) ∙ sym (row-way _ _ _ _ _ _ _ (c .before .before .if1 .left) way), omega (arith, label .1))
+
+link-requires : tie.Need-link-requires
+link-requires c κs =
+    let s = c .before .before .before .before .before .before .before .before .before in
+    omega (arith, s .pre .within, s .pre .rows .ups)
+
+branches-at-requires : tie.Need-branches-at-requires
+branches-at-requires c κs =
+    let s = c .before .before .before .before .before .before .before .before .before .before in
+    let R = s .pre .rows in
+    let up = row-up _ _ _ _ _ _ R (s .args .u) (omega (arith, c .before .before .before .if1 .left)) (s .pre .within) .0 in
+    let e = c .link .ensures .0 in
+    (omega (arith, s .pre .within, R .counts), omega (arith, s .pre .within, R .spans), omega (arith, s .pre .within, R .few))
+
+add-result-2 : tie.Need-add-result-2
+add-result-2 c = omega (arith, c .before .before .before .before .before .before .label-weight .ensures .1)
+
+returns-3 : tie.Need-returns-3
+returns-3 c =
+    let label = c .before .before .before .before .before .before .label-weight .ensures in
+    let off = sym (c .before .before .before .before .on-way .ensures) ∙ c .before .before .before .if2 .left in
+    let ne = c .before .before .before .before .before .if1 .left in
+    let at = sym (c .before .branches-at .ensures) ∙ c .if3 .taken in
+    (ap (λ (m : ℕ). m + 3) (label .0) ∙ sym (row-branch _ _ _ _ _ _ _ ne off _ (c .before .before .link .ensures .0) at), omega (arith, label .1))
+
+add-result-3 : tie.Need-add-result-3
+add-result-3 c = omega (arith, c .before .before .before .before .before .before .label-weight .ensures .1)
+
+returns-4 : tie.Need-returns-4
+returns-4 c =
+    let label = c .before .before .before .before .before .before .label-weight .ensures in
+    let off = sym (c .before .before .before .before .on-way .ensures) ∙ c .before .before .before .if2 .left in
+    let ne = c .before .before .before .before .before .if1 .left in
+    let at = sym (c .before .branches-at .ensures) ∙ c .if3 .left in
+    (ap (λ (m : ℕ). m + 2) (label .0) ∙ sym (row-chain _ _ _ _ _ _ _ ne off _ (c .before .before .link .ensures .0) at), omega (arith, label .1))
+
+pub row-weight-spec : {M : Type 1} → statement M
+row-weight-spec =
+    tie.close
+    (tie.spec
+    mul-label-weight
+    shared-slice-read-label-weight
+    label-weight-requires
+    returns
+    on-way-requires
+    add-result
+    returns-2
+    link-requires
+    branches-at-requires
+    add-result-2
+    returns-3
+    add-result-3
+    returns-4)

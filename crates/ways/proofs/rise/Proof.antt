@@ -1,0 +1,89 @@
+-- The room has the factors of the way from s up to row x.
+use Prim.Native.Nat.{_≤_}
+use native.Mathlib.Omega.{arith}
+use Rattle.groups.specs.Put.{Written}
+use Rattle.branches.specs.Joining.{fill}
+use Rattle.branches.proofs.Joining.{written-length}
+use Rattle.ways.specs.Ways.{Covers, upsAt}
+use Rattle.ways.proofs.Writing.{climb-row, rise-start, rise-less, rise-covers, rise-from, rise-reached, rise-own, rise-parent, rise-next}
+use Rattle.ways.proofs.rise.Statement.{statement}
+use Rattle.ways.proofs.rise.Tie as tie
+
+abbrev Inv-loop : tie.InvT-loop
+Inv-loop code kids span up s t room₀ from x₀ at₀ room x at = (t ≤ x) × Covers span x s × Written room₀ from (fill from from (upsAt code span s x)) room at
+
+abbrev μ-loop : tie.MeasureT-loop
+μ-loop code kids span up s t room₀ from x₀ at₀ room x at = x
+
+loop-holds : tie.Need-loop-holds Inv-loop μ-loop
+loop-holds c =
+    let s = c .before .before .before .before .before in
+    rise-start (s .pre .0) _ _
+
+own-requires : tie.Need-own-requires Inv-loop μ-loop
+own-requires c κs =
+    let s = c .before .before .before .before .before .before .before .before in
+    let l = c .before .before .loop in
+    let (tx, v, w) = l .inv in
+    let ne = c .before .loop-test .taken in
+    (climb-row (s .pre .0) (l .x) v, rise-reached (s .pre .0) (l .x) tx v ne _ w, rise-own (s .pre .0) (l .x) tx v ne _ w (s .pre .1))
+
+put-sign-requires : tie.Need-put-sign-requires Inv-loop μ-loop
+put-sign-requires c κs =
+    let s = c .before .before .before .before .before .before .before .before .before .before .before .before in
+    let l = c .before .before .before .before .before .before .loop in
+    let test = c .before .before .before .before .before .loop-test in
+    let own = c .before .before .before .own in
+    let (tx, v, w) = l .inv in
+    rise-parent (s .pre .0) (l .x) tx v (test .taken) _ w (s .pre .1) (own .ensures)
+
+link-requires : tie.Need-link-requires Inv-loop μ-loop
+link-requires c κs =
+    let s = c .before .before .before .before .before .before .before .before .before .before .before .before .before .before .before in
+    let l = c .before .before .before .before .before .before .before .before .before .loop in
+    let v = l .inv .1 in omega (arith, v .from, s .pre .0 .within, s .pre .0 .rows .ups)
+
+loop-less : tie.Need-loop-less Inv-loop μ-loop
+loop-less c =
+    let s = c .before .before .before .before .before .before .before .before .before .before .before .before .before .before .before .before in
+    let l = c .before .before .before .before .before .before .before .before .before .before .loop in
+    let test = c .before .before .before .before .before .before .before .before .before .loop-test in
+    let (tx, v, w) = l .inv in
+    let l = rise-less (s .pre .0) (l .x) tx v (test .taken) in omega (arith, c .link .ensures .0)
+
+loop-again : tie.Need-loop-again Inv-loop μ-loop
+loop-again c =
+    let s = c .before .before .before .before .before .before .before .before .before .before .before .before .before .before .before .before in
+    let l = c .before .before .before .before .before .before .before .before .before .before .loop in
+    let test = c .before .before .before .before .before .before .before .before .before .loop-test in
+    let own = c .before .before .before .before .before .before .before .own in
+    let put-sign = c .before .before .before .put-sign in
+    let (tx, v, w) = l .inv in
+    let C = s .pre .0 in
+    let ne = test .taken in
+    rw (c .link .ensures .0) (
+      rise-from C (l .x) tx v ne,
+      rise-covers C (l .x) tx v ne,
+      rise-next C (l .x) tx v ne _ w (own .ensures) (put-sign .ensures),
+    )
+
+same-length : tie.Need-same-length Inv-loop μ-loop
+same-length c = written-length (c .before .loop .inv .2)
+
+returns : tie.Need-returns Inv-loop μ-loop
+returns c = rw (← c .loop-test .left) (c .before .loop .inv .2)
+
+pub rise-spec : {M : Type 1} → statement M
+rise-spec =
+    tie.close
+    (tie.spec
+    Inv-loop
+    μ-loop
+    loop-holds
+    own-requires
+    put-sign-requires
+    link-requires
+    loop-less
+    loop-again
+    same-length
+    returns)
