@@ -3,8 +3,8 @@ use mathlib.Core.List.{List}
 use Prim.Native.Nat.{ℕ, _+_}
 use lib.ListN.{length}
 use denote.Ref.{now, at-last}
-use Rattle.groups.specs.declared.Writer.{Writer}
+use Rattle.forms.specs.declared.Writer.{Writer}
 use Rattle.groups.specs.Put.{put}
 
 -- the same room with the bytes bs behind those already filled, and as many more filled
 abbrev pub filled : Writer → List ℕ → Writer

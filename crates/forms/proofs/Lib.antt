@@ -1,0 +1,3 @@
+mod Lent
+mod Beside
+mod Fitting
