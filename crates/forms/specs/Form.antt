@@ -6,7 +6,8 @@ use mathlib.Core.List.{List}
 use mathlib.Core.Option.{Option}
 use Prim.Native.Nat.{ℕ}
 use Rattle.meaning.specs.TreeQuery.{Query}
-use Rattle.meaning.specs.Image.{plainImage, minimalImage}
+use Rattle.meaning.specs.Tree.{Forest, Tag, plainTree}
+use Rattle.meaning.specs.Image.{plainImage, minimalImage, ordered, minimalTree}
 use Rattle.meaning.specs.Normal.{normal, wordOf, normalForm}
 use Rattle.meaning.specs.Word.{Outcome, refused, answered}
 use Rattle.meaning.specs.Promise.{fitting, lengthOf, roomAfter}
@@ -23,6 +24,17 @@ formOf Plain = plainImage
 formOf Minimal = minimalImage
 formOf Normal = normalForm
 
+-- the form is of the plain tree; the two others are of the minimal tree
+abbrev pub isPlain : Form → Bool
+isPlain Plain = true
+isPlain Minimal = false
+isPlain Normal = false
+
+-- the tree that the form is of, with brothers in image order
+abbrev pub formTree : Form → Option Query → Forest Tag
+formTree form Q = cond (isPlain form) (ordered (plainTree Q)) (minimalTree Q)
+
+-- the form is a word; the two others are images
 abbrev pub isNormal : Form → Bool
 isNormal Plain = false
 isNormal Minimal = false
