@@ -9,11 +9,12 @@ use native.Mathlib.Omega.{arith}
 use lib.ListN.{length, getD, set, take, drop, length-set}
 use lib.Seq.{getD-set-same}
 use Rattle.meaning.specs.TreeQuery.{Query, nodes, TreeQuery}
+use Rattle.meaning.specs.Limits.{mostPending}
 use Rattle.meaning.specs.Gluing.{two}
 use Rattle.theory.proofs.Plain.{TreeO, Short, composed-tree, intersected-tree, composed-short, intersected-short}
 use Rattle.glue.specs.declared.gluing.Built.{Built}
 use Rattle.rows.specs.Table.{ifRows, query}
-use Rattle.glue.specs.Rows.{Room, queryFrom, part, builtOf}
+use Rattle.glue.specs.Rows.{poolRows, Room, queryFrom, part, builtOf}
 use Rattle.glue.specs.Pool.{Pool, pool, operand, stack, Sound, Stands, Trees, Latest, chosen, combined}
 use Rattle.rows.proofs.Table.{length-table, live-below, rows-none, rows-some}
 use Rattle.glue.proofs.Parts.{part-none, part-some}
@@ -130,11 +131,11 @@ module _ (p : Pool) (n : ℕ) (le : 2 ≤ n) (sound : Sound p n) (trees : Trees 
       short : suc (nodes made) ≤ nodesO (operand p (n - 2)) + nodesO (operand p (n - 1))
       short = subst (Short (nodesO (operand p (n - 2)) + nodesO (operand p (n - 1)))) here (facts .1)
 
-  pub combine-high : r .rows ≢ 0 → a + r .rows ≤ 512
+  pub combine-high : r .rows ≢ 0 → a + r .rows ≤ poolRows
   combine-high ne = omega (arith, combine-fine ne .less, sound .end n (omega arith))
 
   pub combine-asks : r .rows ≢ 0
-      → (n - 2 < 256) × (n - 2 + 1 < length (p .first)) × (n - 2 < length (p .s)) × (n - 2 < length (p .d)) × (a + r .rows < 65536) × (r .s < 65536) × (r .d < 65536)
+      → (n - 2 < mostPending) × (n - 2 + 1 < length (p .first)) × (n - 2 < length (p .s)) × (n - 2 < length (p .d)) × (a + r .rows < 65536) × (r .s < 65536) × (r .d < 65536)
   combine-asks ne =
       let f = combine-fine ne in
       let h = combine-high ne in

@@ -7,9 +7,10 @@ use native.Mathlib.Decide.{ℕ-discrete}
 use native.Mathlib.Omega.{arith}
 use lib.ListN.{length, getD, set, take, drop}
 use lib.Seq.{getD-take, getD-drop, getD-set-other}
+use Rattle.meaning.specs.Limits.{mostPending}
 use Rattle.meaning.specs.TreeQuery.{Query}
 use Rattle.rows.specs.Table.{table, ifRows}
-use Rattle.glue.specs.Rows.{part}
+use Rattle.glue.specs.Rows.{poolRows, part}
 use Rattle.glue.specs.Pool.{Pool, operand, stack, Sound, Stands}
 use Rattle.rows.proofs.Table.{length-table, at-table, table-is}
 
@@ -33,9 +34,9 @@ same-rows a b n P P′ L L′ ep el le = table-is n (drop b P′) (drop b L′) 
 pub record Step (p p′ : Pool) (n j v : ℕ) : Type 0 where
   pub sound : Sound p n
   pub place : j ≤ n
-  pub small : j < 256
+  pub small : j < mostPending
   pub low : getD (p .first) j 0 ≤ v
-  pub fits : v ≤ 512
+  pub fits : v ≤ poolRows
   pub next : getD (p′ .first) (j + 1) 0 ≡ v
   pub firsts : (k : ℕ) → k ≤ j → getD (p′ .first) k 0 ≡ getD (p .first) k 0
   pub marksS : (k : ℕ) → k < j → getD (p′ .s) k 0 ≡ getD (p .s) k 0
@@ -98,7 +99,7 @@ module _ {p p′ : Pool} {n j v : ℕ} (st : Step p p′ n j v) where
       rising k lt (no nq) =
           rw (st .firsts k (omega arith), st .firsts (k + 1) (omega arith)) (st .sound .up k (omega (arith, st .place)))
 
-      ending : (k : ℕ) → k ≤ j + 1 → Dec (k ≡ j + 1) → getD (p′ .first) k 0 ≤ 512
+      ending : (k : ℕ) → k ≤ j + 1 → Dec (k ≡ j + 1) → getD (p′ .first) k 0 ≤ poolRows
       ending k le (yes q) = rw (q, st .next) (st .fits)
       ending k le (no nq) = rw (st .firsts k (omega arith)) (st .sound .end k (omega (arith, st .place)))
 

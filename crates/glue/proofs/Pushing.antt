@@ -8,10 +8,11 @@ use lib.ListN.{length, getD, set, take, drop, length-set}
 use lib.Seq.{getD-drop, getD-set-same, getD-set-other, take-set-le}
 use Rattle.meaning.specs.Basics.{mapped}
 use Rattle.meaning.specs.TreeQuery.{any, node, Table, at, Query}
+use Rattle.meaning.specs.Limits.{mostPending}
 use Rattle.meaning.specs.Gluing.{oneNode, twoNodes, bothAtS, bothAtD, exchanged}
 use Rattle.rows.specs.Rows.{labOf, noRow}
 use Rattle.rows.specs.Table.{rowAt, table, ifRows}
-use Rattle.glue.specs.Rows.{part}
+use Rattle.glue.specs.Rows.{poolRows, part}
 use Rattle.glue.specs.Pool.{Pool, pool, operand, stack, Sound, Stands, onTop}
 use Rattle.rows.proofs.Table.{parent-none, parent-some, table-is}
 use Rattle.glue.proofs.Parts.{part-none, part-some}
@@ -58,7 +59,7 @@ row-two P L u v ev lp ll = table-is 2 (drop u P₂) (drop u L₂) (node none any
     go (suc (suc i)) lt = absurd (omega arith)
 
 -- ------------------------------------------------------------------ a new operand
-module _ (p : Pool) (n u : ℕ) (sound : Sound p n) (lt : n < 256) (eu : u ≡ getD (p .first) n 0) where
+module _ (p : Pool) (n u : ℕ) (sound : Sound p n) (lt : n < mostPending) (eu : u ≡ getD (p .first) n 0) where
   pub empty-stands : (F′ : List ℕ) → F′ ≡ set (p .first) (n + 1) u → Stands (pool (p .parent) (p .label) F′ (p .s) (p .d)) (n + 1) (none ∷ stack p n)
   empty-stands F′ ef = step-stands step none (part-none (p .parent) (p .label) (getD (p .first) n 0) u (getD (p .s) n 0) (getD (p .d) n 0) (sym eu))
     where
@@ -84,7 +85,7 @@ module _ (p : Pool) (n u : ℕ) (sound : Sound p n) (lt : n < 256) (eu : u ≡ g
 
   -- r rows are written from u on, and the marks are x and y
   module _ (p′ : Pool) (r x y : ℕ) (ef : p′ .first ≡ set (p .first) (n + 1) (u + r)) (es : p′ .s ≡ set (p .s) n x) (ed : p′ .d ≡ set (p .d) n y)
-      (fit : u + r ≤ 512) (pos : 0 < r) (tp : take u (p′ .parent) ≡ take u (p .parent)) (tl : take u (p′ .label) ≡ take u (p .label))
+      (fit : u + r ≤ poolRows) (pos : 0 < r) (tp : take u (p′ .parent) ≡ take u (p .parent)) (tl : take u (p′ .label) ≡ take u (p .label))
       (lp : length (p′ .parent) ≡ length (p .parent)) (ll : length (p′ .label) ≡ length (p .label)) where
     push-step : Step p p′ n n (u + r)
     push-step = record {
@@ -111,7 +112,7 @@ module _ (p : Pool) (n u : ℕ) (sound : Sound p n) (lt : n < 256) (eu : u ≡ g
         (rw (← eu, es, ed, getD-set-same (p .s) n x 0 (omega (arith, sound .marksS)), getD-set-same (p .d) n y 0 (omega (arith, sound .marksD)))
         (part-some (p′ .parent) (p′ .label) u (u + r) x y (omega arith) (λ e. omega arith) ∙ rw ((let q : u + r - u ≡ r = omega arith in q), et) refl))
 
-  module _ (F′ S′ D′ : List ℕ) (room : u < 511) where
+  module _ (F′ S′ D′ : List ℕ) (room : u + 1 < poolRows) where
     pub node-stands : (c : ℕ) → F′ ≡ set (p .first) (n + 1) (u + 1) → S′ ≡ set (p .s) n 0 → D′ ≡ set (p .d) n 0
         → Stands (pool (set (p .parent) u noRow) (set (p .label) u c) F′ S′ D′) (n + 1) (some (oneNode (labOf c)) ∷ stack p n)
     node-stands c ef es ed =

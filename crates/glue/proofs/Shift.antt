@@ -13,7 +13,7 @@ use Rattle.meaning.specs.Gluing.{relink, shift, join}
 use Rattle.rows.specs.Rows.{labOf, noRow}
 use Rattle.theory.proofs.Join.{length-join, at-left, at-right, Side, left, right, sideOf}
 use Rattle.rows.specs.Table.{parentOf, rowAt, table}
-use Rattle.glue.specs.Rows.{Relinked, Swept}
+use Rattle.glue.specs.Rows.{poolRows, Relinked, Swept}
 use Rattle.rows.proofs.Table.{parent-some, length-table, at-table, table-is, live-below, row-table}
 use Rattle.glue.proofs.Sweeping.{here-done}
 
@@ -22,16 +22,16 @@ module _ (n : ℕ) (P L : List ℕ) (tree : Tree (table n P L)) where
   pub links-in : (i p : ℕ) → i < n → parentOf (getD P i 0) ≡ some p → p < n
   links-in i p lt e = live-below n P L p ((tree .linked i p (labOf (getD L i 0)) (row-table n P L i lt (some p) e)) .0)
 
-  pub links-small : n ≤ 512 → (i p : ℕ) → i < n → parentOf (getD P i 0) ≡ some p → p < 512
+  pub links-small : n ≤ poolRows → (i p : ℕ) → i < n → parentOf (getD P i 0) ≡ some p → p < poolRows
   links-small le i p lt e = let z = links-in i p lt e in omega arith
 
 -- ------------------------------------------------------------------ one link
-pub shifted-small : (p : ℕ) → p ≢ noRow → ((q : ℕ) → parentOf p ≡ some q → q < 512) → p < 512
+pub shifted-small : (p : ℕ) → p ≢ noRow → ((q : ℕ) → parentOf p ≡ some q → q < poolRows) → p < poolRows
 shifted-small p ne f = f p (parent-some p ne)
 
 -- ------------------------------------------------------------------ all links of the second table
 pub shift-small : (P₀ : List ℕ) (na nb i : ℕ) (P : List ℕ) → Swept (Relinked (λ q. na + q)) 0 na i P₀ P → na ≤ i → i < na + nb
-    → ((j p : ℕ) → j < nb → parentOf (getD (drop na P₀) j 0) ≡ some p → p < 512) → (q : ℕ) → parentOf (getD P i 0) ≡ some q → q < 512
+    → ((j p : ℕ) → j < nb → parentOf (getD (drop na P₀) j 0) ≡ some p → p < poolRows) → (q : ℕ) → parentOf (getD P i 0) ≡ some q → q < poolRows
 shift-small P₀ na nb i P h ni lt f q e =
     f (i - na) q (omega arith)
     (ap parentOf (getD-drop na P₀ (i - na) 0 ∙ ap (λ z. getD P₀ z 0) (let z : na + (i - na) ≡ i = omega arith in z) ∙ sym (h .rest i (omega arith))) ∙ e)

@@ -12,43 +12,44 @@ use borrow.Author.Tests.{ltb-true, ne-eqb}
 use Rattle.meaning.specs.Basics.{mapped}
 use Rattle.meaning.specs.Expression.{Expr, label, steps}
 use Rattle.meaning.specs.TreeQuery.{Query}
+use Rattle.meaning.specs.Limits.{mostPending, mostSteps, tooManyPending, tooManySteps}
 use Rattle.meaning.specs.Gluing.{two, oneNode, plain}
 use Rattle.meaning.specs.Word.{refused, answered, operand as operandSign, unary, binary, signOf, isStep, Pending, onOne, onTwo, counted, pushed, takes}
 use Rattle.rows.specs.Rows.{labOf}
 use Rattle.theory.proofs.Look.{never}
 use Rattle.theory.proofs.Plain.{TreeO, AtMost, plain-means, means-tree, few-nodes}
 use Rattle.rows.specs.Table.{ifRows}
-use Rattle.glue.specs.Rows.{queryFrom, part}
+use Rattle.glue.specs.Rows.{poolRows, queryFrom, part}
 use Rattle.glue.specs.Pool.{Pool, operand, stack, Sound, Stands, Trees, chosen, combined, onTop, allSteps, Holds, Passes}
 use Rattle.rows.proofs.Table.{length-table}
 
 -- ------------------------------------------------------------------ the word's side
 -- an operand sign: there is room for it, and steps are counted
 record Pushes (e : Expr) (st st′ : Pending) : Type 0 where
-  few : length (st .operands) < 256
+  few : length (st .operands) < mostPending
   operands : st′ .operands ≡ e ∷ st .operands
   count : st′ .steps ≡ st .steps + steps e
-  within : st .steps ≤ 255 → st′ .steps ≤ 255
+  within : st .steps ≤ mostSteps → st′ .steps ≤ mostSteps
 
 taken-operand : (step : Bool) (e : Expr) (st st′ : Pending) (at : ℕ) → steps e ≡ cond step 1 0
     → pushed step e (st .operands) at (st .steps) ≡ answered st′ → Pushes e st st′
-taken-operand step e st st′ at k q = go step k (ltb (length (st .operands)) 256) refl q
+taken-operand step e st st′ at k q = go step k (ltb (length (st .operands)) mostPending) refl q
   where
-    counts : (step : Bool) → steps e ≡ cond step 1 0 → length (st .operands) < 256 → counted step e (st .operands) at (st .steps) ≡ answered st′ → Pushes e st st′
+    counts : (step : Bool) → steps e ≡ cond step 1 0 → length (st .operands) < mostPending → counted step e (st .operands) at (st .steps) ≡ answered st′ → Pushes e st st′
     counts false k′ lt q′ =
         let z : st .steps ≡ st′ .steps = cc in
         record { few = lt; operands = cc; count = omega arith; within = λ h. omega arith }
-    counts true k′ lt q′ = room (ltb (st .steps) 255) refl q′
+    counts true k′ lt q′ = room (ltb (st .steps) mostSteps) refl q′
       where
-        room : (t : Bool) → ltb (st .steps) 255 ≡ t → cond t (answered (record { operands = e ∷ st .operands; steps = st .steps + 1 })) (refused 5 at) ≡ answered st′ → Pushes e st st′
+        room : (t : Bool) → ltb (st .steps) mostSteps ≡ t → cond t (answered (record { operands = e ∷ st .operands; steps = st .steps + 1 })) (refused tooManySteps at) ≡ answered st′ → Pushes e st st′
         room true h w =
             let z : st .steps + 1 ≡ st′ .steps = cc in
-            record { few = lt; operands = cc; count = omega arith; within = λ _. omega (arith, ltb-true (st .steps) 255 h) }
+            record { few = lt; operands = cc; count = omega arith; within = λ _. omega (arith, ltb-true (st .steps) mostSteps h) }
         room false h w = never cc
 
-    go : (step : Bool) → steps e ≡ cond step 1 0 → (t : Bool) → ltb (length (st .operands)) 256 ≡ t
-        → cond t (counted step e (st .operands) at (st .steps)) (refused 4 at) ≡ answered st′ → Pushes e st st′
-    go step k′ true h w = counts step k′ (ltb-true (length (st .operands)) 256 h) w
+    go : (step : Bool) → steps e ≡ cond step 1 0 → (t : Bool) → ltb (length (st .operands)) mostPending ≡ t
+        → cond t (counted step e (st .operands) at (st .steps)) (refused tooManyPending at) ≡ answered st′ → Pushes e st st′
+    go step k′ true h w = counts step k′ (ltb-true (length (st .operands)) mostPending h) w
     go step k′ false h w = never cc
 
 -- an operator on the latest operand
@@ -129,7 +130,7 @@ module _ (p : Pool) (n v : ℕ) (e : Expr) (es : signOf v ≡ operandSign e) (ek
   unfolding takes
   pushes st st′ at t = taken-operand (isStep v) e st st′ at ek (rw es at t)
 
-  pub push-asks : Passes p n v → (n < 256) × Sound p n × (getD (p .first) n 0 < 511)
+  pub push-asks : Passes p n v → (n < mostPending) × Sound p n × (getD (p .first) n 0 + 1 < poolRows)
   push-asks (st, st′, at, h, t) =
       let w = pushes st st′ at t in
       let l = holds-length p n st h in (

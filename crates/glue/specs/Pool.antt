@@ -1,7 +1,6 @@
 -- The pending operands in one pool of rows: the rows of operand k start at entry k of `first` and end before entry k + 1, its marks are the
 -- entries k of `s` and `d`, and its links count from its own first row. An operand without rows is empty.
 use mathlib.Core.Path.{_≡_}
-use mathlib.Core.Logic.{_≢_}
 use mathlib.Core.Bool.{Bool, true, false}
 use mathlib.Core.Option.{Option}
 use mathlib.Core.List.{List, [], _∷_, map}
@@ -11,12 +10,11 @@ use Rattle.meaning.specs.Basics.{mapped}
 use Rattle.meaning.specs.Expression.{Expr, steps}
 use Rattle.meaning.specs.TreeQuery.{Query}
 use Rattle.meaning.specs.Gluing.{composed, intersected, two, plain}
-use Rattle.meaning.specs.Number.{largestLabel}
+use Rattle.meaning.specs.Limits.{mostPending, mostSteps}
 use Rattle.meaning.specs.Word.{Pending, takes, answered}
-use Rattle.rows.specs.Rows.{noRow}
 use Rattle.theory.proofs.Plain.{TreeO}
 use Rattle.glue.specs.declared.gluing.Built.{Built}
-use Rattle.glue.specs.Rows.{part, builtOf}
+use Rattle.glue.specs.Rows.{poolRows, part, builtOf}
 
 pub record Pool : Type 0 where
   pub parent : List ℕ
@@ -38,15 +36,15 @@ stack p (suc n) = operand p n ∷ stack p n
 
 -- the slices are as long as they must be, and the rows of the n operands follow one another from row 0 on
 pub record Sound (p : Pool) (n : ℕ) : Type 0 where
-  pub parents : 512 ≤ length (p .parent)
-  pub labels : 512 ≤ length (p .label)
-  pub firsts : 257 ≤ length (p .first)
-  pub marksS : 256 ≤ length (p .s)
-  pub marksD : 256 ≤ length (p .d)
-  pub few : n ≤ 256
+  pub parents : poolRows ≤ length (p .parent)
+  pub labels : poolRows ≤ length (p .label)
+  pub firsts : suc mostPending ≤ length (p .first)
+  pub marksS : mostPending ≤ length (p .s)
+  pub marksD : mostPending ≤ length (p .d)
+  pub few : n ≤ mostPending
   pub start : getD (p .first) 0 0 ≡ 0
   pub up : (k : ℕ) → k < n → getD (p .first) k 0 ≤ getD (p .first) (k + 1) 0
-  pub end : (k : ℕ) → k ≤ n → getD (p .first) k 0 ≤ 512
+  pub end : (k : ℕ) → k ≤ n → getD (p .first) k 0 ≤ poolRows
 
 -- the pool holds these operands, n of them
 pub record Stands (p : Pool) (n : ℕ) (qs : List (Option Query)) : Type 0 where
@@ -89,7 +87,7 @@ allSteps (e ∷ es) = steps e + allSteps es
 pub record Holds (p : Pool) (n : ℕ) (st : Pending) : Type 0 where
   pub stands : Stands p n (map plain (st .operands))
   pub count : allSteps (st .operands) ≡ st .steps
-  pub few : st .steps ≤ 255
+  pub few : st .steps ≤ mostSteps
 
 -- a sign that the word's check lets pass
 abbrev pub Passes : Pool → ℕ → ℕ → Type 0
@@ -105,18 +103,3 @@ HoldsOnly p e = (st : Pending) × (st .operands ≡ e ∷ []) × Holds p 1 st
 -- one sign: the pool p, which held the pending operands before it, is p′ after it
 abbrev pub Applies : Pool → ℕ → ℕ → Pool → ℕ → Type 0
 Applies p n sign p′ n′ = (st st′ : Pending) (at : ℕ) → Holds p n st → takes sign st at ≡ answered st′ → Holds p′ n′ st′
-
--- ------------------------------------------------------------------ what is built
--- the rows of r are a tree, or there are none; the marks are among them
-pub record PlainRows (r : Built) (P L : List ℕ) : Type 0 where
-  pub few : r .rows ≤ 256
-  pub parents : r .rows ≤ length P
-  pub codes : r .rows ≤ length L
-  pub labels : (i : ℕ) → i < r .rows → getD L i 0 ≤ suc largestLabel
-  pub sIn : r .rows ≢ 0 → r .s < r .rows
-  pub dIn : r .rows ≢ 0 → r .d < r .rows
-  pub level : ℕ → ℕ
-  pub linked : (i : ℕ) → i < r .rows → getD P i 0 ≢ noRow → (getD P i 0 < r .rows) × (level i ≡ suc (level (getD P i 0)))
-  pub top : ℕ
-  pub topLevel : level top ≡ 0
-  pub single : (i : ℕ) → i < r .rows → getD P i 0 ≡ noRow → i ≡ top

@@ -26,9 +26,13 @@ pub record Swept (R : ℕ → ℕ → Type 0) (gap a i : ℕ) (old new : List �
   pub done : (k : ℕ) → a ≤ k → k < i → R (getD old (k + gap) 0) (getD new k 0)
   pub rest : (k : ℕ) → i ≤ k → getD new k 0 ≡ getD old k 0
 
+-- the rows of the pool: an operand has at most one more than it has steps, so 255 steps and 256 pending operands use 511
+abbrev pub poolRows : ℕ
+poolRows = 512
+
 -- the lists have room for n rows, and n is no more than the pool has
 pub record Room (n : ℕ) (P L : List ℕ) : Type 0 where
-  pub small : n ≤ 512
+  pub small : n ≤ poolRows
   pub parents : n ≤ length P
   pub labels : n ≤ length L
 

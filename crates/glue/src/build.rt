@@ -3,11 +3,11 @@ use crate::gluing::Built;
 use crate::pool::both_at_d;
 use crate::pool::both_at_s;
 use crate::pool::combine;
-use crate::pool::entry;
 use crate::pool::exchange;
 use crate::pool::push_edge;
 use crate::pool::push_empty;
 use crate::pool::push_node;
+use rows::link;
 use word::cursor::Cursor;
 use word::cursor::read_sign;
 use word::number::Read;
@@ -22,14 +22,15 @@ use word::sign::PARENT;
 use word::sign::SECOND_PROJECTION;
 use word::sign::SELF;
 ghost use mathlib.Core.Path.{_≡_};
-ghost use Prim.Native.Nat.{ℕ, _≤_};
+ghost use Prim.Native.Nat.{ℕ, _≤_, _<_};
 ghost use lib.ListN.{length};
 ghost use Rattle.meaning.specs.Expression.{Expr};
 ghost use Rattle.meaning.specs.Gluing.{plain};
+ghost use Rattle.meaning.specs.Limits.{mostPending};
 ghost use Rattle.meaning.specs.Word.{answered, andThen, readWord};
 ghost use Rattle.word.specs.declared.number.Read.the-variants.{Number};
-ghost use Rattle.glue.specs.Rows.{builtOf};
-ghost use Rattle.glue.specs.Pool.{pool, Passes, Applies, HoldsNone, HoldsOnly, PlainRows};
+ghost use Rattle.glue.specs.Rows.{poolRows, builtOf};
+ghost use Rattle.glue.specs.Pool.{pool, Passes, Applies, HoldsNone, HoldsOnly};
 
 // "9+L: label L", and the code of label L is L+1.
 const CODE_TO_SIGN: u32 = FIRST_LABEL - 1;
@@ -106,8 +107,8 @@ fn apply_signs(
     }
 }
 
-// The word is accepted, and the caller lends 512 rows, 257 starts of operands and 256 marks of each kind; what they hold before does not matter.
-// Afterwards the first r.rows rows are the plain tree query, with its marks in r; no rows: empty.
+// The word is accepted, and the caller lends the rows of the pool, a mark of each kind for each operand that may be pending, and one start of an
+// operand more; what they hold before does not matter. Afterwards the first r.rows rows are the plain tree query, with its marks in r; no rows: empty.
 pub fn build(
     word: &[u8],
     parent: &mut [u16],
@@ -117,15 +118,15 @@ pub fn build(
     d: &mut [u16],
 ) -> Built
     requires { ⌜ ((e : Expr) × (readWord (now word) ≡ answered e)) ⌝ }
-    requires { ⌜ (512 ≤ length (now parent)) × (512 ≤ length (now label)) × (257 ≤ length (now first)) × (256 ≤ length (now s)) × (256 ≤ length (now d)) ⌝ }
+    requires { ⌜ (poolRows ≤ length (now parent)) × (poolRows ≤ length (now label))
+        × (mostPending < length (now first)) × (mostPending ≤ length (now s)) × (mostPending ≤ length (now d)) ⌝ }
     ensures { λ r. ⌜ andThen (readWord (now (word .entry))) (λ e. answered (plain e)) ≡ answered (builtOf r (now (parent .exit)) (now (label .exit))) ⌝ }
-    ensures { λ r. ⌜ PlainRows r (now (parent .exit)) (now (label .exit)) ⌝ }
 {
     first[0] = 0;
     apply_signs(word, parent, label, first, s, d);
     Built {
-        rows: entry(first, 1),
-        s: entry(s, 0),
-        d: entry(d, 0),
+        rows: link(first, 1),
+        s: link(s, 0),
+        d: link(d, 0),
     }
 }

@@ -1,11 +1,11 @@
 // "Gluing two nodes glues their parents too, level by level": between two trees, and inside one.
 use crate::merging::Met;
-use crate::merging::NO_ROW;
 use crate::merging::meet_labels;
 use crate::merging::merge_rows;
 use crate::merging::or_else;
 use crate::merging::renumber;
-use crate::merging::wide;
+use rows::NO_ROW;
+use rows::wide;
 ghost use mathlib.Core.Path.{_≡_};
 ghost use mathlib.Core.Option.{some};
 ghost use Prim.Native.Nat.{ℕ, _+_, _≤_, _<_};
@@ -14,7 +14,7 @@ ghost use Rattle.meaning.specs.TreeQuery.{Tree, TreeQuery};
 ghost use Rattle.meaning.specs.Gluing.{glue, join, depth, within, placed, composed, intersected};
 ghost use Rattle.theory.proofs.Apart.{Safe};
 ghost use Rattle.rows.specs.Table.{parentOf, table, query};
-ghost use Rattle.glue.specs.Rows.{Relinked, Room, marked, joinedOf, queryFrom, builtOf};
+ghost use Rattle.glue.specs.Rows.{poolRows, Relinked, Room, marked, joinedOf, queryFrom, builtOf};
 
 // The rows left after a gluing and where three nodes went; no rows where two labels clashed.
 pub struct Joined {
@@ -86,7 +86,7 @@ fn glue_rows(
 
 // A link that counts from the first row of the other table.
 fn shifted(na: u16, p: u16) -> u16
-    requires { ⌜ (na ≤ 512) × ((q : ℕ) → parentOf p ≡ some q → q < 512) ⌝ }
+    requires { ⌜ (na ≤ poolRows) × ((q : ℕ) → parentOf p ≡ some q → q < poolRows) ⌝ }
     ensures { λ r. ⌜ Relinked (λ q. na + q) p r ⌝ }
 {
     if p == NO_ROW {
@@ -98,7 +98,7 @@ fn shifted(na: u16, p: u16) -> u16
 // Two tables side by side become one: the links of the nb rows behind the first na grow by na.
 fn shift_rows(parent: &mut [u16], label: &[u32], na: usize, nb: usize)
     requires { ⌜ Room (na + nb) (now parent) (now label) ⌝ }
-    requires { ⌜ ((i p : ℕ) → i < nb → parentOf (getD (drop na (now parent)) i 0) ≡ some p → p < 512) ⌝ }
+    requires { ⌜ ((i p : ℕ) → i < nb → parentOf (getD (drop na (now parent)) i 0) ≡ some p → p < poolRows) ⌝ }
     ensures { λ _. ⌜ table (na + nb) (now (parent .exit)) (now (label .entry)) ≡ join (table na (now (parent .entry)) (now (label .entry))) (table nb (drop na (now (parent .entry))) (drop na (now (label .entry)))) ⌝ }
 {
     let end = na + nb;

@@ -1,27 +1,18 @@
 // One row stands for two: row y is taken out of a table, row x stands for it, and the rows behind y count one less.
+use rows::NO_ROW;
 ghost use mathlib.Core.Path.{_≡_};
 ghost use mathlib.Core.Option.{some};
 ghost use Prim.Native.Nat.{ℕ, _+_, _-_, _≤_, _<_};
 ghost use lib.ListN.{length, getD};
 ghost use Rattle.meaning.specs.Gluing.{meet, move, moved, merged, orElse};
-ghost use Rattle.rows.specs.Rows.{labOf};
+ghost use Rattle.rows.specs.Rows.{labOf, noRow};
 ghost use Rattle.rows.specs.Table.{parentOf, table};
-ghost use Rattle.glue.specs.Rows.{metOf, Relinked, Swept};
-
-// The parent of a top.
-pub const NO_ROW: u16 = 65535;
+ghost use Rattle.glue.specs.Rows.{poolRows, metOf, Relinked, Swept};
 
 // What two labels glued together are.
 pub enum Met {
     Label(u32),
     Clash,
-}
-
-// A link as a row number.
-pub fn wide(p: u16) -> usize
-    ensures { λ r. ⌜ (r ≡ p) × (r < 65536) ⌝ }
-{
-    p as usize
 }
 
 // x stands for y.
@@ -47,7 +38,7 @@ pub fn renumber(x: usize, y: usize, i: usize) -> usize
 
 // A link, renumbered. All of it in u16, and each way out a choice between numbers: a loop of it then takes eight links at a time.
 fn relinked(x: u16, y: u16, p: u16) -> u16
-    requires { ⌜ (x < 65535) × (y < 65535) ⌝ }
+    requires { ⌜ (x < noRow) × (y < noRow) ⌝ }
     ensures { λ r. ⌜ Relinked (moved x y) p r ⌝ }
 {
     if p == y {
@@ -93,7 +84,7 @@ pub fn or_else(u: u16, v: u16) -> u16
 
 // The links of the rows from `from` to `end` become those of the rows `gap` further on, renumbered.
 fn relink_rows(parent: &mut [u16], from: usize, end: usize, gap: usize, x: u16, y: u16)
-    requires { ⌜ (from ≤ end) × (gap ≤ 1) × (end + gap ≤ length (now parent)) × (x < 65535) × (y < 65535) ⌝ }
+    requires { ⌜ (from ≤ end) × (gap ≤ 1) × (end + gap ≤ length (now parent)) × (x < noRow) × (y < noRow) ⌝ }
     ensures { λ _. ⌜ Swept (Relinked (moved x y)) gap from end (now (parent .entry)) (now (parent .exit)) ⌝ }
 {
     let mut i = from;
@@ -128,7 +119,7 @@ pub fn merge_rows(
     u: u16,
     l: u32,
 )
-    requires { ⌜ (from ≤ y) × (y < n) × (x < n) × (x ≡ y → ⊥) × (n ≤ 512) × (n ≤ length (now parent)) × (n ≤ length (now label)) ⌝ }
+    requires { ⌜ (from ≤ y) × (y < n) × (x < n) × (x ≡ y → ⊥) × (n ≤ poolRows) × (n ≤ length (now parent)) × (n ≤ length (now label)) ⌝ }
     requires { ⌜ ((i p : ℕ) → i < from → parentOf (getD (now parent) i 0) ≡ some p → p < from) ⌝ }
     ensures { λ _. ⌜ table (n - 1) (now (parent .exit)) (now (label .exit)) ≡ merged (table n (now (parent .entry)) (now (label .entry))) x y (parentOf u) (labOf l) ⌝ }
 {

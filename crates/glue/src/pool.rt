@@ -2,42 +2,29 @@
 use crate::gluing::Built;
 use crate::gluing::compose;
 use crate::gluing::intersect;
-use crate::merging::NO_ROW;
-use crate::merging::wide;
+use rows::NO_ROW;
+use rows::link;
+use rows::set_link;
 ghost use mathlib.Core.Path.{_≡_};
 ghost use mathlib.Core.Option.{none, some};
 ghost use mathlib.Core.List.{List, _∷_};
 ghost use Prim.Native.Nat.{ℕ, _+_, _-_, _≤_, _<_};
 ghost use lib.ListN.{length, getD, set, take, drop};
 ghost use Rattle.meaning.specs.Gluing.{two, oneNode, twoNodes, bothAtS, bothAtD, exchanged};
+ghost use Rattle.meaning.specs.Limits.{mostPending};
 ghost use Rattle.rows.specs.Rows.{labOf};
 ghost use Rattle.theory.proofs.Plain.{TreeO};
-ghost use Rattle.glue.specs.Rows.{Room, part, builtOf};
+ghost use Rattle.glue.specs.Rows.{poolRows, Room, part, builtOf};
 ghost use Rattle.glue.specs.Pool.{pool, stack, Sound, Stands, Trees, Latest, chosen, combined, onTop};
-
-// Entry i as a number that counts rows.
-pub fn entry(t: &[u16], i: usize) -> usize
-    requires { ⌜ i < length (now t) ⌝ }
-    ensures { λ r. ⌜ (r ≡ getD (now (t .entry)) i 0) × (r < 65536) ⌝ }
-{
-    wide(t[i])
-}
-
-fn put(t: &mut [u16], i: usize, v: usize)
-    requires { ⌜ (i < length (now t)) × (v < 65536) ⌝ }
-    ensures { λ _. ⌜ now (t .exit) ≡ set (now (t .entry)) i v ⌝ }
-{
-    t[i] = v as u16;
-}
 
 // Operand k ends before row `end` and is marked at x and y.
 fn close(first: &mut [u16], s: &mut [u16], d: &mut [u16], k: usize, end: usize, x: usize, y: usize)
-    requires { ⌜ (k < 256) × (k + 1 < length (now first)) × (k < length (now s)) × (k < length (now d)) × (end < 65536) × (x < 65536) × (y < 65536) ⌝ }
+    requires { ⌜ (k < mostPending) × (k + 1 < length (now first)) × (k < length (now s)) × (k < length (now d)) × (end < 65536) × (x < 65536) × (y < 65536) ⌝ }
     ensures { λ _. ⌜ (now (first .exit) ≡ set (now (first .entry)) (k + 1) end) × (now (s .exit) ≡ set (now (s .entry)) k x) × (now (d .exit) ≡ set (now (d .entry)) k y) ⌝ }
 {
-    put(first, k + 1, end);
-    put(s, k, x);
-    put(d, k, y);
+    set_link(first, k + 1, end);
+    set_link(s, k, x);
+    set_link(d, k, y);
 }
 
 // The query in rows a to m and the query in rows m to e, glued in one of the two ways; the rows before a stay.
@@ -112,19 +99,19 @@ fn glue_latest(
 {
     let k = pending - 2;
     let l = pending - 1;
-    let a = entry(first, k);
-    let m = entry(first, l);
-    let e = entry(first, pending);
+    let a = link(first, k);
+    let m = link(first, l);
+    let e = link(first, pending);
     glue_at(
         parent,
         label,
         a,
         m,
         e,
-        entry(s, k),
-        entry(d, k),
-        entry(s, l),
-        entry(d, l),
+        link(s, k),
+        link(d, k),
+        link(s, l),
+        link(d, l),
         both,
     )
 }
@@ -144,10 +131,10 @@ pub fn combine(
 {
     let k = pending - 2;
     let l = pending - 1;
-    let a = entry(first, k);
+    let a = link(first, k);
     let r = glue_latest(parent, label, first, s, d, pending, both);
     if r.rows == 0 {
-        put(first, l, a);
+        set_link(first, l, a);
         return l;
     }
     close(first, s, d, k, a + r.rows, r.s, r.d);
@@ -156,11 +143,11 @@ pub fn combine(
 
 // A new operand without rows.
 pub fn push_empty(first: &mut [u16], pending: usize) -> usize
-    requires { ⌜ (pending < 256) × (257 ≤ length (now first)) ⌝ }
+    requires { ⌜ (pending < mostPending) × (mostPending < length (now first)) ⌝ }
     ensures { λ r. ⌜ ((P L S D : List ℕ) → Sound (pool P L (now (first .entry)) S D) pending → Stands (pool P L (now (first .exit)) S D) r (none ∷ stack (pool P L (now (first .entry)) S D) pending)) ⌝ }
 {
-    let u = entry(first, pending);
-    put(first, pending + 1, u);
+    let u = link(first, pending);
+    set_link(first, pending + 1, u);
     pending + 1
 }
 
@@ -174,10 +161,10 @@ pub fn push_node(
     pending: usize,
     code: u32,
 ) -> usize
-    requires { ⌜ (pending < 256) × Sound (pool (now parent) (now label) (now first) (now s) (now d)) pending × (getD (now first) pending 0 < 511) ⌝ }
+    requires { ⌜ (pending < mostPending) × Sound (pool (now parent) (now label) (now first) (now s) (now d)) pending × (getD (now first) pending 0 + 1 < poolRows) ⌝ }
     ensures { λ r. ⌜ Stands (pool (now (parent .exit)) (now (label .exit)) (now (first .exit)) (now (s .exit)) (now (d .exit))) r (some (oneNode (labOf code)) ∷ stack (pool (now (parent .entry)) (now (label .entry)) (now (first .entry)) (now (s .entry)) (now (d .entry))) pending) ⌝ }
 {
-    let u = entry(first, pending);
+    let u = link(first, pending);
     parent[u] = NO_ROW;
     label[u] = code;
     close(first, s, d, pending, u + 1, 0, 0);
@@ -195,10 +182,10 @@ pub fn push_edge(
     x: usize,
     y: usize,
 ) -> usize
-    requires { ⌜ (pending < 256) × Sound (pool (now parent) (now label) (now first) (now s) (now d)) pending × (getD (now first) pending 0 < 511) × (x < 2) × (y < 2) ⌝ }
+    requires { ⌜ (pending < mostPending) × Sound (pool (now parent) (now label) (now first) (now s) (now d)) pending × (getD (now first) pending 0 + 1 < poolRows) × (x < 2) × (y < 2) ⌝ }
     ensures { λ r. ⌜ Stands (pool (now (parent .exit)) (now (label .exit)) (now (first .exit)) (now (s .exit)) (now (d .exit))) r (some (twoNodes x y) ∷ stack (pool (now (parent .entry)) (now (label .entry)) (now (first .entry)) (now (s .entry)) (now (d .entry))) pending) ⌝ }
 {
-    let u = entry(first, pending);
+    let u = link(first, pending);
     let v = u + 1;
     parent[u] = NO_ROW;
     parent[v] = 0;
@@ -214,7 +201,7 @@ pub fn both_at_s(s: &[u16], d: &mut [u16], pending: usize) -> usize
     ensures { λ r. ⌜ ((P L F : List ℕ) → Sound (pool P L F (now (s .entry)) (now (d .entry))) pending → Stands (pool P L F (now (s .entry)) (now (d .exit))) r (onTop bothAtS (stack (pool P L F (now (s .entry)) (now (d .entry))) pending))) ⌝ }
 {
     let k = pending - 1;
-    put(d, k, entry(s, k));
+    set_link(d, k, link(s, k));
     pending
 }
 
@@ -224,7 +211,7 @@ pub fn both_at_d(s: &mut [u16], d: &[u16], pending: usize) -> usize
     ensures { λ r. ⌜ ((P L F : List ℕ) → Sound (pool P L F (now (s .entry)) (now (d .entry))) pending → Stands (pool P L F (now (s .exit)) (now (d .entry))) r (onTop bothAtD (stack (pool P L F (now (s .entry)) (now (d .entry))) pending))) ⌝ }
 {
     let k = pending - 1;
-    put(s, k, entry(d, k));
+    set_link(s, k, link(d, k));
     pending
 }
 
@@ -234,9 +221,9 @@ pub fn exchange(s: &mut [u16], d: &mut [u16], pending: usize) -> usize
     ensures { λ r. ⌜ ((P L F : List ℕ) → Sound (pool P L F (now (s .entry)) (now (d .entry))) pending → Stands (pool P L F (now (s .exit)) (now (d .exit))) r (onTop exchanged (stack (pool P L F (now (s .entry)) (now (d .entry))) pending))) ⌝ }
 {
     let k = pending - 1;
-    let x = entry(s, k);
-    let y = entry(d, k);
-    put(s, k, y);
-    put(d, k, x);
+    let x = link(s, k);
+    let y = link(d, k);
+    set_link(s, k, y);
+    set_link(d, k, x);
     pending
 }

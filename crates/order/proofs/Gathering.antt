@@ -10,6 +10,7 @@ use lib.ListN.{length, getD, set, length-set}
 use lib.Seq.{getD-set-same, getD-set-other}
 use lib.Dec.{eqb, ltb}
 use borrow.Author.Tests.{eq-eqb, ne-eqb, lt-ltb, le-ltb, ltb-true}
+use Rattle.meaning.specs.Limits.{mostNodes}
 use Rattle.meaning.specs.Tree.{size, plant}
 use Rattle.rows.specs.Rows.{noRow}
 use Rattle.order.specs.Links.{forestAt, Linked, Finite}
@@ -70,7 +71,7 @@ counts-turn parent n j h l kq p ep count C lp k ek count′ ec x kx = rw ec (go 
         rw (children-open parent n j x l true (eq-eqb q x (sym e)), s, getD-set-same count p (k + 1) 0 lp) (omega arith)
     go (inr (d, s)) = rw (children-open parent n j x l false (ne-eqb q x d), getD-set-other count p (slotOf n x) (k + 1) 0 s) (C x kx)
 
-pub count-low : (parent : List ℕ) (n b : ℕ) (count : List ℕ) → Counts parent n b count → n ≤ 256 → (q : ℕ) → Known n q → (p : ℕ) → p ≡ slotOf n q
+pub count-low : (parent : List ℕ) (n b : ℕ) (count : List ℕ) → Counts parent n b count → n ≤ mostNodes → (q : ℕ) → Known n q → (p : ℕ) → p ≡ slotOf n q
     → (k : ℕ) → k ≡ getD count p 0 → k + 1 < 65536
 count-low parent n b count C few q kq p ep k ek =
     let x = C q kq in
@@ -78,9 +79,8 @@ count-low parent n b count C few q kq p ep k ek =
     let z : getD count p 0 ≡ getD count (slotOf n q) 0 = rw ep in omega arith
 
 -- ------------------------------------------------------------------ clearing
-pub cleared-more : (i : ℕ) (fs count : List ℕ) → Cleared i fs count → i < length fs → i < length count → (fs′ count′ : List ℕ)
-    → fs′ ≡ set fs i noRow → count′ ≡ set count i 0 → Cleared (i + 1) fs′ count′
-cleared-more i fs count h lf lc fs′ count′ ef ec p l = rw (ef, ec) (go (ℕ-discrete p i))
+pub cleared-more : (i : ℕ) (fs count : List ℕ) → Cleared i fs count → i < length fs → i < length count → Cleared (i + 1) (set fs i noRow) (set count i 0)
+cleared-more i fs count h lf lc p l = go (ℕ-discrete p i)
   where
     go : Dec (p ≡ i) → (getD (set fs i noRow) p 0 ≡ noRow) × (getD (set count i 0) p 0 ≡ 0)
     go (yes e) = (rw e (getD-set-same fs i noRow 0 lf), rw e (getD-set-same count i 0 0 lc))

@@ -7,6 +7,7 @@ use mathlib.Core.List.{List, [], _∷_}
 use Prim.Native.Nat.{ℕ, _-_, _≤_, _<_}
 use lib.ListN.{length, getD}
 use lib.Dec.{ltb}
+use Rattle.meaning.specs.Limits.{mostNodes}
 use Rattle.rows.specs.Rows.{noRow}
 use Rattle.rows.specs.Table.{childrenOf}
 
@@ -29,7 +30,7 @@ Cleared i fs count = (p : ℕ) → p < i → (getD fs p 0 ≡ noRow) × (getD co
 
 -- room for the lists of n rows
 pub record Slots (parent : List ℕ) (n : ℕ) (fs ns count : List ℕ) : Type 0 where
-  pub few : n ≤ 256
+  pub few : n ≤ mostNodes
   pub parents : n ≤ length parent
   pub firsts : n < length fs
   pub nexts : n ≤ length ns

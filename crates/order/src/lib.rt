@@ -3,9 +3,12 @@
 // its place among its later brothers. The tree is then laid out as rows. A link that is not below next.len() leads nowhere, so the test for the end of
 // a list is the test for its bounds.
 // Two brothers are compared without writing their records out: one key a row stands for the first three numbers of its record.
+use rows::NO_ROW;
+use rows::link;
+use rows::set_link;
 ghost use mathlib.Core.Path.{_≡_};
 ghost use Prim.Native.Nat.{suc, _+_, _<_, _≤_};
-ghost use lib.ListN.{length, getD, set};
+ghost use lib.ListN.{length, getD};
 ghost use Rattle.meaning.specs.Image.{ordered};
 ghost use Rattle.rows.specs.Rows.{Rows, treeRows};
 ghost use Rattle.rows.specs.Table.{TreeTable, ParentsFirst, tableTree};
@@ -15,24 +18,6 @@ ghost use Rattle.order.specs.Links.{Wide, Finite, forestAt, cmpF, goesFi
 ghost use Rattle.order.specs.Sorting.{Sortable, Sorting, Sorted};
 ghost use Rattle.order.specs.LaidOut.{Roomy, Laid, Borne, Bearing};
 ghost use Rattle.order.specs.Contract.{Room};
-
-// ---------------------------------------------------------------- links
-
-// What stands at i. One call for each read keeps the proofs of its callers short.
-fn link(t: &[u16], i: usize) -> usize
-    requires { ⌜ i < length (now t) ⌝ }
-    ensures { λ r. ⌜ (r ≡ getD (now (t .entry)) i 0) × (r < 65536) ⌝ }
-{
-    t[i] as usize
-}
-
-// Puts v at i.
-fn set_link(t: &mut [u16], i: usize, v: usize)
-    requires { ⌜ (i < length (now t)) × (v < 65536) ⌝ }
-    ensures { λ _. ⌜ now (t .exit) ≡ set (now (t .entry)) i v ⌝ }
-{
-    t[i] = v as u16;
-}
 
 // ---------------------------------------------------------------- the children of each row, as lists
 
@@ -46,15 +31,15 @@ fn slot(p: usize, n: usize) -> usize
     n
 }
 
-// Empties the lists of n rows and of the top: 65535 leads nowhere.
+// Empties the lists of n rows and of the top: NO_ROW leads nowhere.
 fn clear(n: usize, first: &mut [u16], count: &mut [u16])
     requires { ⌜ (n < length (now first)) × (n < length (now count)) ⌝ }
     ensures { λ _. ⌜ Cleared (n + 1) (now (first .exit)) (now (count .exit)) ⌝ }
 {
     let mut i: usize = 0;
     while i <= n {
-        set_link(first, i, 65535);
-        set_link(count, i, 0);
+        first[i] = NO_ROW;
+        count[i] = 0;
         i += 1;
     }
 }
@@ -282,8 +267,8 @@ fn sort_rows(
 
 // ---------------------------------------------------------------- rows in image order
 
-// The parent of a row at the top.
-const NO_ROW: usize = 65535;
+// The parent of the top, as a row number.
+const TOP: usize = NO_ROW as usize;
 
 // Lays the forest at c out as rows, and returns how many there are. It goes down to the first child; where there is none, all below row u is laid
 // out, and it goes on to u's next brother. The rows' own parents lead back up, so no call is open for a row.
@@ -300,7 +285,7 @@ fn lay(
 {
     let n = next.len();
     let mut at: usize = 0;
-    let mut u = NO_ROW;
+    let mut u = TOP;
     let mut x = c;
     loop {
         if x < n {
@@ -311,7 +296,7 @@ fn lay(
             at += 1;
             continue;
         }
-        if u == NO_ROW {
+        if u == TOP {
             return at;
         }
         set_link(span, u, at - u);
@@ -345,7 +330,7 @@ fn bear(
     }
 }
 
-// The tree of the first n rows of a table as rows in image order. parent[i] is the row of i's parent, which stands before row i, and 65535 at the top,
+// The tree of the first n rows of a table as rows in image order. parent[i] is the row of i's parent, which stands before row i, and NO_ROW at the top,
 // row 0; the slices from `first` to `row` are lent to work in, and what they are left with means nothing.
 pub fn image_rows(
     parent: &[u16],

@@ -9,7 +9,7 @@ use lib.ListN.{length, getD}
 use lib.Dec.{eqb}
 use Rattle.meaning.specs.Limits.{mostNodes}
 use Rattle.meaning.specs.Number.{largestLabel}
-use Rattle.meaning.specs.TreeQuery.{Row, node, Table, Query, Tree}
+use Rattle.meaning.specs.TreeQuery.{Row, node, Table, Query, TreeQuery}
 use Rattle.meaning.specs.Tree.{Forest, bare, Tag, plant}
 use Rattle.rows.specs.Rows.{labOf, tagAt, mapT, noRow}
 
@@ -42,14 +42,13 @@ ifRows (suc n) a = some a
 abbrev pub queryOf : List ℕ → List ℕ → ℕ → ℕ → ℕ → Option Query
 queryOf P L n s d = ifRows n (query n P L s d)
 
--- the first n rows of a table are a tree query with the nodes s and d, or there are none
+-- the first n rows of a table are a tree query with the nodes s and d, or there are none; the table may have more
 pub record QueryTable (parent code : List ℕ) (n s d : ℕ) : Type 0 where
   pub few : n ≤ mostNodes
   pub parents : n ≤ length parent
   pub codes : n ≤ length code
   pub labels : (i : ℕ) → i < n → getD code i 0 ≤ suc largestLabel
-  pub ends : 0 < n → (s < n) × (d < n)
-  pub tree : 0 < n → Tree (table n parent code)
+  pub valid : 0 < n → TreeQuery (query n parent code s d)
 
 -- ------------------------------------------------------------------ the tree of a table, with marks
 -- those of the k rows from j on whose parent is p, in the order of the table

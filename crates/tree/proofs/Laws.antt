@@ -1,191 +1,134 @@
--- The table that gluing leaves is a tree, and it is the plain tree of the word.
+-- A table that is a tree query, marked at s and d, may be laid out, and its tree is the plain tree of the query. Rows that are a tree may be folded and
+-- put in order. What is lent is as long as it was.
 use mathlib.Core.Path.{_≡_, refl, sym, ap, subst, _∙_}
-use mathlib.Core.Bool.{Bool, true, false, cond}
-use mathlib.Core.Option.{Option, none, some}
-use mathlib.Core.List.{List, [], _∷_}
-use Prim.Native.Nat.{ℕ, zero, suc, _+_, _≤_, _<_}
+use mathlib.Core.Bool.{Bool, true, false}
+use mathlib.Core.List.{List}
+use Prim.Native.Nat.{ℕ, zero, suc, _≤_, _<_}
 use native.Mathlib.Decide.{ℕ-discrete}
 use native.Mathlib.Omega.{arith}
+use lib.Bits.{bitOr}
 use lib.ListN.{length, getD, set, length-set}
 use lib.Seq.{getD-set-same, getD-set-other}
-use Rattle.meaning.specs.Basics.{is, look}
-use Rattle.meaning.specs.Expression.{Expr, pairs, steps}
-use Rattle.meaning.specs.Number.{largestLabel}
-use Rattle.meaning.specs.TreeQuery.{Lab, any, lab, Row, node, Query, TreeQuery, Tree}
-use Rattle.meaning.specs.Gluing.{plain}
-use Rattle.meaning.specs.Tree.{Forest, bare, Tag, plainTree, treeOf}
-use Rattle.meaning.specs.Image.{markCode}
-use Rattle.meaning.specs.Word.{Outcome, refused, answered, andThen, readWord}
-use Rattle.theory.proofs.Plain.{Means, AtMost, RowsIn, plain-means, few-nodes, plain-labels}
-use Rattle.theory.proofs.Limits.{InRange}
-use Rattle.theory.proofs.Accepted.{accepted}
-use Rattle.theory.proofs.Look.{live-lt}
-use Rattle.rows.specs.Rows.{Rows, treeRows, shape, brothers, mapT, labOf, noRow}
-use Rattle.rows.specs.Table.{TreeTable, tableTree, tableRows}
+use Rattle.meaning.specs.Basics.{is}
+use Rattle.meaning.specs.Limits.{mostNodes}
+use Rattle.meaning.specs.TreeQuery.{Tree, TreeQuery}
+use Rattle.meaning.specs.Tree.{plainTree}
+use Rattle.meaning.specs.Folding.{minimal}
+use Rattle.meaning.specs.Image.{markCode, ordered}
+use Rattle.theory.proofs.Look.{never}
+use Rattle.rows.specs.Rows.{Rows, treeRows, mapT}
+use Rattle.rows.specs.Table.{table, query, queryOf, QueryTable, TreeTable, tableTree, tableShape, grown, childrenOf}
+use Rattle.rows.proofs.Table.{live-below}
+use Rattle.order.specs.Contract.{Room as LaySpace}
 use Rattle.order.proofs.QueryTable.{table-tree, table-of-tree}
-use Rattle.rows.specs.Table.{parentOf, rowAt, listed, table, query, ifRows}
-use Rattle.tree.specs.Trees.{Accepted, Ends, BuiltRows}
+use Rattle.order.proofs.RowsTable.{rows-tree, rows-table, rows-first}
+use Rattle.fold.specs.Kept.{RowsFolded, RowsKept}
+use Rattle.tree.specs.Tables.{Lent, Room, Ends, Sortable}
 
 -- ------------------------------------------------------------------ marks
--- what a decision is worth, where it is known
-is-no : (i j : ℕ) → (i ≡ j → ⊥) → is (ℕ-discrete i j) ≡ false
-is-no i j ne = go (ℕ-discrete i j)
-  where
-    go : (d : Dec (i ≡ j)) → is d ≡ false
-    go (yes e) = absurd (ne e)
-    go (no n) = refl
-
-is-yes : (i j : ℕ) → i ≡ j → is (ℕ-discrete i j) ≡ true
-is-yes i j e = go (ℕ-discrete i j)
-  where
-    go : (d : Dec (i ≡ j)) → is d ≡ true
-    go (yes p) = refl
-    go (no n) = absurd (n e)
-
-pub ends-one : (mark : List ℕ) (s d : ℕ) → s < length mark → s ≡ d → ((i : ℕ) → i < length mark → getD mark i 0 ≡ 0) → Ends (set (set mark s 1) d 3) s d
-ends-one mark s d ls e z i l = go (ℕ-discrete i d)
-  where
-    li : i < length mark
-    li = subst (λ z. i < z) (length-set (set mark s 1) d 3 ∙ length-set mark s 1) l
-
-    go : Dec (i ≡ d) → getD (set (set mark s 1) d 3) i 0 ≡ markCode (is (ℕ-discrete i s)) (is (ℕ-discrete i d))
-    go (yes p) = rw (is-yes i d p, is-yes i s (p ∙ sym e)) (ap (λ z. getD (set (set mark s 1) d 3) z 0) p ∙ getD-set-same (set mark s 1) d 3 0 (subst (λ z. d < z) (sym (length-set mark s 1)) (omega arith)))
-    go (no n) = rw (is-no i d n, is-no i s (λ q. n (q ∙ e)))
-        (getD-set-other (set mark s 1) d i 3 0 n ∙ getD-set-other mark s i 1 0 (λ q. n (q ∙ e)) ∙ z i li)
-
-pub ends-two : (mark : List ℕ) (s d : ℕ) → s < length mark → d < length mark → (s ≡ d → ⊥) → ((i : ℕ) → i < length mark → getD mark i 0 ≡ 0) → Ends (set (set mark s 1) d 2) s d
-ends-two mark s d ls ld ne z i l = go (ℕ-discrete i d) (ℕ-discrete i s)
-  where
-    li : i < length mark
-    li = subst (λ z. i < z) (length-set (set mark s 1) d 2 ∙ length-set mark s 1) l
-
-    go : Dec (i ≡ d) → Dec (i ≡ s) → getD (set (set mark s 1) d 2) i 0 ≡ markCode (is (ℕ-discrete i s)) (is (ℕ-discrete i d))
-    go (yes p) q = rw (is-yes i d p, is-no i s (λ r. ne (sym r ∙ p)))
-        (ap (λ z. getD (set (set mark s 1) d 2) z 0) p ∙ getD-set-same (set mark s 1) d 2 0 (subst (λ z. d < z) (sym (length-set mark s 1)) ld))
-    go (no n) (yes q) = rw (is-no i d n, is-yes i s q)
-        (getD-set-other (set mark s 1) d i 2 0 n ∙ ap (λ z. getD (set mark s 1) z 0) q ∙ getD-set-same mark s 1 0 ls)
-    go (no n) (no q) = rw (is-no i d n, is-no i s q)
-        (getD-set-other (set mark s 1) d i 2 0 n ∙ getD-set-other mark s i 1 0 q ∙ z i li)
-
--- ------------------------------------------------------------------ the table that gluing leaves
-table-rows : (P L : List ℕ) (n j : ℕ) (f : ℕ → Row) → ((i : ℕ) → f i ≡ rowAt P L (j + i)) → listed n f ≡ tableRows P L n j
-unfolding tableRows parentOf
-table-rows P L zero j f h = refl
-table-rows P L (suc n) j f h = λ v. (h 0 ∙ (λ w. rowAt P L (plus w))) v ∷ table-rows P L n (suc j) (λ i. f (suc i)) (λ i. h (suc i) ∙ (λ w. rowAt P L (next i w))) v
-  where
-    plus : j + 0 ≡ j
-    plus = omega arith
-
-    next : (i : ℕ) → j + suc i ≡ suc j + i
-    next i = omega arith
-
-table-is : (P L : List ℕ) (n : ℕ) → table n P L ≡ tableRows P L n 0
-unfolding table
-table-is P L n = table-rows P L n 0 (rowAt P L) (λ i v. rowAt P L (zero-plus i v))
-  where
-    zero-plus : (i : ℕ) → i ≡ 0 + i
-    zero-plus i = omega arith
-
 mark-small : (a b : Bool) → markCode a b ≤ 3
 mark-small false false = omega arith
 mark-small true false = omega arith
 mark-small false true = omega arith
 mark-small true true = omega arith
 
-pub answered-same : {A : Type 0} (a b : A) → answered a ≡ answered b → a ≡ b
-answered-same {A = A} a b e = ap (get a) e
+-- s and d are marked by a bit each
+pub ends-marked : (mark : List ℕ) (n s d : ℕ) → n ≤ length mark → s < n → d < n → ((i : ℕ) → i < n → getD mark i 0 ≡ 0)
+    → Ends (set (set mark s 1) d (bitOr (getD (set mark s 1) d 0) 2)) n s d
+ends-marked mark n s d fits ls ld none i l = go (ℕ-discrete i s) (ℕ-discrete i d)
   where
-    get : A → Outcome A → A
-    get x (refused n p) = x
-    get x (answered y) = y
+    v : ℕ
+    v = bitOr (getD (set mark s 1) d 0) 2
 
-length-listed : (n : ℕ) (f : ℕ → Row) → length (listed n f) ≡ n
-length-listed zero f = refl
-length-listed (suc n) f = ap suc (length-listed n (λ i. f (suc i)))
+    here : i ≡ d → getD (set (set mark s 1) d v) i 0 ≡ v
+    here e = rw e (getD-set-same (set mark s 1) d v 0 (let z = length-set mark s 1 in omega arith))
 
-look-listed : (n i : ℕ) (f : ℕ → Row) → i < n → look (listed n f) i ≡ some (f i)
-look-listed zero i f l = absurd (omega arith)
-look-listed (suc n) zero f l = refl
-look-listed (suc n) (suc i) f l = look-listed n i (λ j. f (suc j)) (omega arith)
+    away : (i ≡ d → ⊥) → getD (set (set mark s 1) d v) i 0 ≡ getD (set mark s 1) i 0
+    away ne = getD-set-other (set mark s 1) d i v 0 ne
 
--- a label code stands for a label in range where its row does
-code-small : (c : ℕ) → ((l : ℕ) → labOf c ≡ lab l → l ≤ largestLabel) → c ≤ suc largestLabel
-code-small zero h = omega arith
-code-small (suc l) h = let z = h l refl in omega arith
+    at-s : i ≡ s → getD (set mark s 1) i 0 ≡ 1
+    at-s e = rw e (getD-set-same mark s 1 0 (omega arith))
 
--- the word is accepted and the n rows that gluing left are its plain tree query
-module _ (word P L : List ℕ) (n s d : ℕ) (acc : Accepted word)
-    (built : andThen (readWord word) (λ e. answered (plain e)) ≡ answered (ifRows n (query n P L s d))) where
-  plain-built : (e : Expr) → readWord word ≡ answered e → plain e ≡ ifRows n (query n P L s d)
-  plain-built e r =
-      answered-same (plain e) (ifRows n (query n P L s d)) (subst (λ o. andThen o (λ f. answered (plain f)) ≡ answered (ifRows n (query n P L s d))) r built)
+    not-s : (i ≡ s → ⊥) → getD (set mark s 1) i 0 ≡ 0
+    not-s ne = getD-set-other mark s i 1 0 ne ∙ none i l
 
-  -- no rows: the word is empty, and no rows are its tree
-  pub no-rows : n ≡ 0 → (code mark kids span up : List ℕ) → BuiltRows word code mark kids span up 0
-  unfolding treeRows shape brothers mapT
-  no-rows z code mark kids span up = record {
-    rows = record {
-      few = omega arith;
-      codes = omega arith;
-      marks = omega arith;
-      counts = omega arith;
-      spans = omega arith;
-      ups = omega arith;
-      labels = λ u l. absurd (omega arith);
-      marked = λ u l. absurd (omega arith);
-      laid = refl;
-      counted = tt;
-      hung = tt;
-      single = omega arith;
-    };
-    tree = λ e r. sym (ap plainTree (plain-built e r ∙ ap (λ k. ifRows k (query n P L s d)) z));
-  }
+    or-two : (w : ℕ) → i ≡ d → getD (set mark s 1) i 0 ≡ w → v ≡ bitOr w 2
+    or-two w e x = ap (λ (y : ℕ). bitOr y 2) (ap (λ (y : ℕ). getD (set mark s 1) y 0) (sym e) ∙ x)
 
-  module _ (some-rows : 0 < n) where
-    plain-is : (e : Expr) → readWord word ≡ answered e → plain e ≡ some (query n P L s d)
-    plain-is e r = plain-built e r ∙ go n some-rows
+    go : (a : Dec (i ≡ s)) (b : Dec (i ≡ d)) → getD (set (set mark s 1) d v) i 0 ≡ markCode (is a) (is b)
+    go (yes a) (yes b) = here b ∙ or-two 1 b (at-s a)
+    go (yes a) (no b) = away b ∙ at-s a
+    go (no a) (yes b) = here b ∙ or-two 0 b (not-s a)
+    go (no a) (no b) = away b ∙ not-s a
+
+-- ------------------------------------------------------------------ the table of a tree query
+module _ (P L : List ℕ) (n s d : ℕ) (Q : QueryTable P L n s d) where
+  pub ends-inside : 0 < n → (s < n) × (d < n)
+  ends-inside pos = let v = Q .valid pos in (live-below n P L s (v .sLive), live-below n P L d (v .dLive))
+
+  -- no rows are a tree too
+  whole : Tree (table n P L)
+  whole = go n (Q .valid)
+    where
+      go : (k : ℕ) → (0 < k → TreeQuery (query k P L s d)) → Tree (table k P L)
+      go zero v = unfold table in record {
+        lev = λ _. 0;
+        linked = λ i p l e. never cc;
+        top = 0;
+        topLev = refl;
+        single = λ i r. never (cc (r .1));
+      }
+      go (suc k) v = v (omega arith) .tree
+
+  module _ (ends : List ℕ) (fits : n ≤ length ends) (E : Ends ends n s d) where
+    -- it may be laid out, with s and d marked
+    pub marked-table : TreeTable P L ends n
+    marked-table =
+        table-of-tree P L ends n (Q .few) (Q .parents) (Q .codes) fits (Q .labels)
+        (λ i l. subst (λ z. z ≤ 3) (sym (E i l)) (mark-small (is (ℕ-discrete i s)) (is (ℕ-discrete i d)))) whole
+
+    -- and its tree is the plain tree
+    pub marked-tree : tableTree P L ends n ≡ plainTree (queryOf P L n s d)
+    unfolding mapT tableTree tableShape grown childrenOf
+    marked-tree = go n refl
       where
-        go : (k : ℕ) → 0 < k → ifRows k (query n P L s d) ≡ some (query n P L s d)
-        go zero l = absurd (omega arith)
-        go (suc k) l = refl
+        go : (k : ℕ) → n ≡ k → tableTree P L ends n ≡ plainTree (queryOf P L k s d)
+        go zero e = rw e refl
+        go (suc k) e = table-tree (query n P L s d) P L ends n (omega (arith, Q .few)) refl E ∙ rw e
 
-    means : TreeQuery (query n P L s d)
-    means = (subst (Means (pairs (acc .0))) (plain-is (acc .0) (acc .1)) (plain-means (acc .0))) .0
+-- ------------------------------------------------------------------ rows
+module _ (code mark kids span up : List ℕ) (n : ℕ) (R : Rows code mark kids span up n) where
+  pub rows-sortable : Sortable up code mark n
+  rows-sortable = record { table = rows-table code mark kids span up n R; first = rows-first code mark kids span up n R }
 
-    length-rows : length (table n P L) ≡ n
-    unfolding table
-    length-rows = length-listed n (rowAt P L)
+-- what folding left, moved together, is the minimal tree but for the order of brothers
+pub folded-least : (code mark span up : List ℕ) (n : ℕ) (up′ code′ mark′ parent : List ℕ) (m : ℕ) → RowsFolded code mark span up n up′
+    → (K : RowsKept code mark span up′ n code′ mark′ parent m) → ordered (tableTree parent code′ mark′ m) ≡ ordered (minimal (treeRows code mark span n))
+folded-least code mark span up n up′ code′ mark′ parent m F K =
+    ap ordered (rows-tree code′ mark′ (K .kids) (K .spans) parent m (K .rows) ∙ K .tree) ∙ F .least
 
-    pub few : n ≤ 256
-    few =
-        let a : length (table n P L) ≤ suc (steps (acc .0)) = subst (AtMost (suc (steps (acc .0)))) (plain-is (acc .0) (acc .1)) (few-nodes (acc .0)) in
-        let b = length-rows in
-        let c = (accepted word (acc .0) (acc .1)) .0 in omega arith
+-- ------------------------------------------------------------------ what is lent
+-- it is enough to lay n rows out
+pub lay-space : {n : ℕ} {first next count row code mark kids span up : List ℕ} → n ≤ mostNodes → Lent first next count row
+    → Room code mark kids span up → LaySpace n first next count row code mark kids span up
+lay-space few l r = record {
+  firsts = omega arith;
+  counts = omega arith;
+  nexts = omega arith;
+  short = omega arith;
+  wide = omega arith;
+  rows = omega arith;
+  outCodes = omega arith;
+  outMarks = omega arith;
+  outKids = omega arith;
+  outSpans = omega arith;
+  outUps = omega arith;
+}
 
-    pub s-inside : s < 256
-    s-inside = let z = live-lt (table n P L) s (means .sLive) in let l = length-rows in let f = few in omega arith
+pub still-lent : {first next count row first′ next′ count′ row′ : List ℕ} → Lent first next count row → length first′ ≡ length first
+    → length next′ ≡ length next → length count′ ≡ length count → length row′ ≡ length row → Lent first′ next′ count′ row′
+still-lent l a b c d = record { firsts = a ∙ l .firsts; nexts = b ∙ l .nexts; counts = c ∙ l .counts; rows = d ∙ l .rows }
 
-    pub d-inside : d < 256
-    d-inside = let z = live-lt (table n P L) d (means .dLive) in let l = length-rows in let f = few in omega arith
-
-    labels : (i : ℕ) → i < n → getD L i 0 ≤ suc largestLabel
-    unfolding table
-    labels i l =
-        code-small (getD L i 0) λ x e.
-        (subst (RowsIn InRange) (plain-is (acc .0) (acc .1)) (plain-labels InRange (acc .0) ((accepted word (acc .0) (acc .1)) .1)))
-        i (parentOf (getD P i 0)) x (look-listed n i (rowAt P L) l ∙ ap (λ z. some (node (parentOf (getD P i 0)) z)) e)
-
-    module _ (ends : List ℕ) (marks : Ends ends s d) (lp : n ≤ length P) (ll : n ≤ length L) (le : n ≤ length ends) where
-      pub is-tree : TreeTable P L ends n
-      is-tree = table-of-tree P L ends n few lp ll le labels
-          (λ i l. subst (λ z. z ≤ 3) (sym (marks i (omega arith))) (mark-small (is (ℕ-discrete i s)) (is (ℕ-discrete i d))))
-          (subst Tree (table-is P L n) (means .tree))
-
-      pub same-tree : (e : Expr) → readWord word ≡ answered e → tableTree P L ends n ≡ plainTree (plain e)
-      same-tree e r =
-          table-tree (query n P L s d) P L ends n (let z = few in omega arith) (table-is P L n) (λ i l. marks i (omega arith)) ∙ ap plainTree (sym (plain-is e r))
-
--- a number that is not 0
-pub positive : (n : ℕ) → (n ≡ 0 → ⊥) → 0 < n
-positive zero ne = absurd (ne refl)
-positive (suc n) ne = omega arith
+pub still-room : {code mark kids span up code′ mark′ kids′ span′ up′ : List ℕ} → Room code mark kids span up → length code′ ≡ length code
+    → length mark′ ≡ length mark → length kids′ ≡ length kids → length span′ ≡ length span → length up′ ≡ length up → Room code′ mark′ kids′ span′ up′
+still-room r a b c d e = record { codes = a ∙ r .codes; marks = b ∙ r .marks; counts = c ∙ r .counts; spans = d ∙ r .spans; ups = e ∙ r .ups }

@@ -1,1 +1,1 @@
-pub mod Trees
+pub mod Tables

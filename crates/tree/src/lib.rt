@@ -1,51 +1,70 @@
-// From an accepted word to its tree as rows in image order: the plain tree, and the minimal tree.
-// The tables in which the trees are made are local; the caller lends the five slices of the rows.
+// From a table that is a tree query to its rows in image order: the plain tree, and the minimal tree. No rows: empty.
+// What a caller has read, in whatever language, it puts into such a table. The tables to work in are lent, so that a caller may use them before.
+use limits::most::MOST_NODES;
 ghost use mathlib.Core.Path.{_≡_};
-ghost use Prim.Native.Nat.{ℕ, _<_};
+ghost use mathlib.Core.List.{List};
+ghost use Prim.Native.Nat.{ℕ, _<_, _≤_};
 ghost use lib.ListN.{length, getD};
-ghost use Rattle.tree.specs.Trees.{Accepted, Ends, Lent, Room, BuiltRows, PlainRows, MinimalRows};
+ghost use Rattle.meaning.specs.Limits.{mostNodes};
+ghost use Rattle.meaning.specs.Tree.{plainTree};
+ghost use Rattle.meaning.specs.Folding.{minimal};
+ghost use Rattle.meaning.specs.Image.{ordered, minimalTree};
+ghost use Rattle.rows.specs.Rows.{Rows, treeRows};
+ghost use Rattle.rows.specs.Table.{QueryTable, queryOf, tableTree};
+ghost use Rattle.tree.specs.Tables.{Lent, Room, Ends, RowsAre, Sortable};
 
-// Marks s and d among nodes that bear no mark.
-fn mark_ends(mark: &mut [u8], s: usize, d: usize)
-    requires { ⌜ (s < length (now mark)) × (d < length (now mark)) × ((i : ℕ) → i < length (now mark) → getD (now mark) i 0 ≡ 0) ⌝ }
-    ensures { λ _. ⌜ Ends (now (mark .exit)) s d ⌝ }
+// A number of sixteen bits for each node: links, spans, numbers of children.
+pub type Links = [u16; MOST_NODES];
+
+// The same, and one more for the top, which has no parent.
+pub type Starts = [u16; MOST_NODES + 1];
+
+// A label code for each node.
+pub type Codes = [u32; MOST_NODES];
+
+// A mark for each node.
+pub type Marks = [u8; MOST_NODES];
+
+// Marks s and d among the first n nodes, which bear no mark: bit 0 is s, bit 1 is d.
+fn mark_ends(mark: &mut [u8], n: usize, s: usize, d: usize)
+    requires { ⌜ (n ≤ length (now mark)) × (0 < n → (s < n) × (d < n)) × ((i : ℕ) → i < n → getD (now mark) i 0 ≡ 0) ⌝ }
+    ensures { λ _. ⌜ Ends (now (mark .exit)) n s d ⌝ }
 {
-    mark[s] = 1;
-    if s == d {
-        mark[d] = 3;
+    if n == 0 {
         return;
     }
-    mark[d] = 2;
+    mark[s] = 1;
+    mark[d] = mark[d] | 2;
 }
 
-// The tree as it is built, brothers in the order of gluing. The slices from `first` to `row` are lent to work in, by every step with its own meaning.
-fn built_rows(
-    word: &[u8],
-    first: &mut [u16],
-    next: &mut [u16],
-    count: &mut [u16],
-    row: &mut [u16],
-    code: &mut [u32],
-    mark: &mut [u8],
-    kids: &mut [u16],
-    span: &mut [u16],
-    up: &mut [u16],
-) -> usize
-    requires { ⌜ Accepted (now word) × Lent (now first) (now next) (now count) (now row) × Room (now code) (now mark) (now kids) (now span) (now up) ⌝ }
-    ensures { λ r. ⌜ BuiltRows (now (word .entry)) (now (code .exit)) (now (mark .exit)) (now (kids .exit)) (now (span .exit)) (now (up .exit)) r ⌝ }
+// The tree with brothers in the order of the table. The tables from `first` to `row` are lent to work in, here and below.
+fn laid_rows(
+    parent: &[u16],
+    label: &[u32],
+    n: usize,
+    s: usize,
+    d: usize,
+    first: &mut Starts,
+    next: &mut Links,
+    count: &mut Starts,
+    row: &mut Links,
+    code: &mut Codes,
+    mark: &mut Marks,
+    kids: &mut Links,
+    span: &mut Links,
+    up: &mut Links,
+)
+    requires { ⌜ QueryTable (now parent) (now label) n s d × Lent (now first) (now next) (now count) (now row)
+        × Room (now code) (now mark) (now kids) (now span) (now up) ⌝ }
+    ensures { λ _. ⌜ RowsAre (plainTree (queryOf (now (parent .entry)) (now (label .entry)) n s d))
+        (now (code .exit)) (now (mark .exit)) (now (kids .exit)) (now (span .exit)) (now (up .exit)) n
+        × Lent (now (first .exit)) (now (next .exit)) (now (count .exit)) (now (row .exit)) ⌝ }
 {
-    let mut parent = [0u16; 512];
-    let mut label = [0u32; 512];
-    let built = glue::build::build(word, &mut parent, &mut label, first, next, row);
-    let n = built.rows;
-    if n == 0 {
-        return 0;
-    }
-    let mut ends = [0u8; 256];
-    mark_ends(&mut ends, built.s, built.d);
+    let mut ends = [0u8; MOST_NODES];
+    mark_ends(&mut ends, n, s, d);
     order::tree_rows(
-        &parent,
-        &label,
+        parent,
+        label,
         &ends,
         n,
         first,
@@ -58,104 +77,180 @@ fn built_rows(
         span,
         up,
     );
-    n
 }
 
-// The plain tree: as it is built, put in order.
-pub fn plain_rows(
-    word: &[u8],
-    code: &mut [u32],
-    mark: &mut [u8],
-    kids: &mut [u16],
-    span: &mut [u16],
-    up: &mut [u16],
-) -> usize
-    requires { ⌜ Accepted (now word) × Room (now code) (now mark) (now kids) (now span) (now up) ⌝ }
-    ensures { λ r. ⌜ PlainRows (now (word .entry)) (now (code .exit)) (now (mark .exit)) (now (kids .exit)) (now (span .exit)) (now (up .exit)) r ⌝ }
+// The tree of a table whose parents stand before their children, with brothers in image order.
+fn ordered_rows(
+    parent: &Links,
+    label: &Codes,
+    ends: &Marks,
+    n: usize,
+    first: &mut Starts,
+    next: &mut Links,
+    count: &mut Starts,
+    row: &mut Links,
+    code: &mut Codes,
+    mark: &mut Marks,
+    kids: &mut Links,
+    span: &mut Links,
+    up: &mut Links,
+)
+    requires { ⌜ Sortable (now parent) (now label) (now ends) n × Lent (now first) (now next) (now count) (now row)
+        × Room (now code) (now mark) (now kids) (now span) (now up) ⌝ }
+    ensures { λ _. ⌜ RowsAre (ordered (tableTree (now (parent .entry)) (now (label .entry)) (now (ends .entry)) n))
+        (now (code .exit)) (now (mark .exit)) (now (kids .exit)) (now (span .exit)) (now (up .exit)) n ⌝ }
 {
-    let mut first = [0u16; 257];
-    let mut next = [0u16; 256];
-    let mut count = [0u16; 257];
-    let mut row = [0u16; 256];
-    let mut labels = [0u32; 256];
-    let mut marks = [0u8; 256];
-    let mut parent = [0u16; 256];
-    let n = built_rows(
-        word,
-        &mut first,
-        &mut next,
-        &mut count,
-        &mut row,
-        &mut labels,
-        &mut marks,
-        kids,
-        span,
-        &mut parent,
-    );
-    let mut key = [0u64; 256];
+    let mut key = [0u64; MOST_NODES];
     order::image_rows(
-        &parent,
-        &labels,
-        &marks,
+        parent,
+        label,
+        ends,
         n,
-        &mut first,
-        &mut next,
-        &mut count,
+        first,
+        next,
+        count,
         &mut key,
-        &mut row,
+        row,
         code,
         mark,
         kids,
         span,
         up,
     );
-    n
 }
 
-// The minimal tree: the tree as it is built, folded to the end, its rows moved together and put in order.
-pub fn minimal_rows(
-    word: &[u8],
-    code: &mut [u32],
-    mark: &mut [u8],
-    kids: &mut [u16],
-    span: &mut [u16],
-    up: &mut [u16],
+// Folds n rows to the end and moves those that are left together, as a table.
+fn folded_rows(
+    code: &mut Codes,
+    mark: &mut Marks,
+    span: &Links,
+    up: &mut Links,
+    n: usize,
+    child: &mut Links,
+    parent: &mut Links,
+    moved: &mut Links,
 ) -> usize
-    requires { ⌜ Accepted (now word) × Room (now code) (now mark) (now kids) (now span) (now up) ⌝ }
-    ensures { λ r. ⌜ MinimalRows (now (word .entry)) (now (code .exit)) (now (mark .exit)) (now (kids .exit)) (now (span .exit)) (now (up .exit)) r ⌝ }
+    requires { ⌜ ((kids : List ℕ) × Rows (now code) (now mark) kids (now span) (now up) n)
+        × (length (now child) ≡ mostNodes) × (length (now parent) ≡ mostNodes) × (length (now moved) ≡ mostNodes) ⌝ }
+    ensures { λ r. ⌜ Sortable (now (parent .exit)) (now (code .exit)) (now (mark .exit)) r
+        × (ordered (tableTree (now (parent .exit)) (now (code .exit)) (now (mark .exit)) r)
+        ≡ ordered (minimal (treeRows (now (code .entry)) (now (mark .entry)) (now (span .entry)) n)))
+        × (length (now (up .exit)) ≡ length (now (up .entry)))
+        × (length (now (child .exit)) ≡ mostNodes) × (length (now (moved .exit)) ≡ mostNodes) ⌝ }
 {
-    let mut first = [0u16; 257];
-    let mut next = [0u16; 256];
-    let mut count = [0u16; 257];
-    let mut row = [0u16; 256];
-    let mut labels = [0u32; 256];
-    let mut marks = [0u8; 256];
-    let n = built_rows(
-        word,
-        &mut first,
-        &mut next,
-        &mut count,
-        &mut row,
+    fold::fold_rows(code, mark, span, up, n, child);
+    fold::keep_rows(code, mark, span, up, n, parent, moved)
+}
+
+// The plain tree: laid out, then put in order.
+pub fn plain_rows(
+    parent: &[u16],
+    label: &[u32],
+    n: usize,
+    s: usize,
+    d: usize,
+    first: &mut Starts,
+    next: &mut Links,
+    count: &mut Starts,
+    row: &mut Links,
+    code: &mut Codes,
+    mark: &mut Marks,
+    kids: &mut Links,
+    span: &mut Links,
+    up: &mut Links,
+)
+    requires { ⌜ QueryTable (now parent) (now label) n s d × Lent (now first) (now next) (now count) (now row)
+        × Room (now code) (now mark) (now kids) (now span) (now up) ⌝ }
+    ensures { λ _. ⌜ RowsAre (ordered (plainTree (queryOf (now (parent .entry)) (now (label .entry)) n s d)))
+        (now (code .exit)) (now (mark .exit)) (now (kids .exit)) (now (span .exit)) (now (up .exit)) n ⌝ }
+{
+    let mut above = [0u16; MOST_NODES];
+    let mut labels = [0u32; MOST_NODES];
+    let mut marks = [0u8; MOST_NODES];
+    laid_rows(
+        parent,
+        label,
+        n,
+        s,
+        d,
+        first,
+        next,
+        count,
+        row,
+        &mut labels,
+        &mut marks,
+        kids,
+        span,
+        &mut above,
+    );
+    ordered_rows(
+        &above,
+        &labels,
+        &marks,
+        n,
+        first,
+        next,
+        count,
+        row,
+        code,
+        mark,
+        kids,
+        span,
+        up,
+    );
+}
+
+// The minimal tree: laid out, folded to the end, then put in order. Returns how many rows it has.
+pub fn minimal_rows(
+    parent: &[u16],
+    label: &[u32],
+    n: usize,
+    s: usize,
+    d: usize,
+    first: &mut Starts,
+    next: &mut Links,
+    count: &mut Starts,
+    row: &mut Links,
+    code: &mut Codes,
+    mark: &mut Marks,
+    kids: &mut Links,
+    span: &mut Links,
+    up: &mut Links,
+) -> usize
+    requires { ⌜ QueryTable (now parent) (now label) n s d × Lent (now first) (now next) (now count) (now row)
+        × Room (now code) (now mark) (now kids) (now span) (now up) ⌝ }
+    ensures { λ r. ⌜ RowsAre (minimalTree (queryOf (now (parent .entry)) (now (label .entry)) n s d))
+        (now (code .exit)) (now (mark .exit)) (now (kids .exit)) (now (span .exit)) (now (up .exit)) r ⌝ }
+{
+    let mut above = [0u16; MOST_NODES];
+    let mut labels = [0u32; MOST_NODES];
+    let mut marks = [0u8; MOST_NODES];
+    laid_rows(
+        parent,
+        label,
+        n,
+        s,
+        d,
+        first,
+        next,
+        count,
+        row,
         &mut labels,
         &mut marks,
         kids,
         span,
         up,
     );
-    fold::fold_rows(&labels, &marks, span, up, n, &mut next);
-    let mut parent = [0u16; 256];
-    let m = fold::keep_rows(&mut labels, &mut marks, span, up, n, &mut parent, &mut row);
-    let mut key = [0u64; 256];
-    order::image_rows(
-        &parent,
+    let m = folded_rows(&mut labels, &mut marks, span, up, n, next, &mut above, row);
+    ordered_rows(
+        &above,
         &labels,
         &marks,
         m,
-        &mut first,
-        &mut next,
-        &mut count,
-        &mut key,
-        &mut row,
+        first,
+        next,
+        count,
+        row,
         code,
         mark,
         kids,

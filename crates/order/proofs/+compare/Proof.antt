@@ -10,7 +10,7 @@ use Rattle.order.proofs.compare.Reads as compare
 use Rattle.order.proofs.compare.Kinds as compare-kinds
 use Rattle.order.proofs.+compare.Lts-compare as compare-lts
 use Rattle.order.proofs.key_at.Reads as key-at-reads
-use Rattle.order.proofs.link.Reads as link-reads
+use Rattle.rows.proofs.link.Reads as link-reads
 use Rattle.order.proofs.+compare.{statement}
 use Rattle.order.proofs.+compare.Tie.{close}
 

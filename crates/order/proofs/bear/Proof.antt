@@ -9,8 +9,8 @@ use Rattle.order.proofs.bear.Statement.{statement}
 use Rattle.order.proofs.bear.Tie as tie
 use Rattle.order.proofs.bear.Reads as reads
 use Rattle.order.proofs.bear.Lts as lts
-use Rattle.order.proofs.link.Reads as link-reads
-use Rattle.order.proofs.set_link.Reads as set-link-reads
+use Rattle.rows.proofs.link.Reads as link-reads
+use Rattle.rows.proofs.set_link.Reads as set-link-reads
 
 abbrev Inv-loop : tie.InvT-loop
 Inv-loop row code mark count n out-code₀ out-mark₀ kids₀ i₀ out-code out-mark kids i = (i ≤ n) × (length out-code ≡ length out-code₀) × (length out-mark ≡ length out-mark₀) × (length kids ≡ length kids₀) × Borne row code mark count i out-code out-mark kids

@@ -9,8 +9,8 @@ use Rattle.order.proofs.gather.Statement.{statement}
 use Rattle.order.proofs.gather.Tie as tie
 use Rattle.order.proofs.gather.Reads as reads
 use Rattle.order.proofs.gather.Lts as lts
-use Rattle.order.proofs.link.Reads as link-reads
-use Rattle.order.proofs.set_link.Reads as set-link-reads
+use Rattle.rows.proofs.link.Reads as link-reads
+use Rattle.rows.proofs.set_link.Reads as set-link-reads
 use Rattle.order.proofs.slot.Reads as slot-reads
 
 abbrev Inv-loop : tie.InvT-loop

@@ -8,7 +8,7 @@ use Rattle.order.proofs.goes_first.Reads as reads
 use Rattle.order.proofs.goes_first.Lts as lts
 use Rattle.order.proofs.compare.Reads as compare-reads
 use Rattle.order.proofs.key_at.Reads as key-at-reads
-use Rattle.order.proofs.link.Reads as link-reads
+use Rattle.rows.proofs.link.Reads as link-reads
 
 returns : tie.Need-returns
 returns c = first-less _ _ _ _ _ _ _ (c .before .before .key-at .ensures) (c .before .key-at2 .ensures) (c .if1 .taken)

@@ -9,7 +9,7 @@ use Rattle.order.proofs.image_rows.Lts as lts
 use Rattle.order.proofs.bear.Reads as bear-reads
 use Rattle.order.proofs.clear.Reads as clear-reads
 use Rattle.order.proofs.lay.Reads as lay-reads
-use Rattle.order.proofs.link.Reads as link-reads
+use Rattle.rows.proofs.link.Reads as link-reads
 use Rattle.order.proofs.sort_rows.Reads as sort-rows-reads
 
 sort-rows-requires : tie.Need-sort-rows-requires

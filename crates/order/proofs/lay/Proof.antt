@@ -5,8 +5,8 @@ use Rattle.order.proofs.lay.Statement.{statement}
 use Rattle.order.proofs.lay.Tie as tie
 use Rattle.order.proofs.lay.Reads as reads
 use Rattle.order.proofs.lay.Lts as lts
-use Rattle.order.proofs.link.Reads as link-reads
-use Rattle.order.proofs.set_link.Reads as set-link-reads
+use Rattle.rows.proofs.link.Reads as link-reads
+use Rattle.rows.proofs.set_link.Reads as set-link-reads
 
 abbrev Inv-loop : tie.InvT-loop
 Inv-loop first next c row₀ up₀ span₀ n at₀ u₀ x₀ row up span at u x = Laying first next c row₀ up₀ span₀ row up span at u x

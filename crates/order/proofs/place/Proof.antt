@@ -4,8 +4,8 @@ use Rattle.order.proofs.place.Statement.{statement}
 use Rattle.order.proofs.place.Tie as tie
 use Rattle.order.proofs.place.Reads as reads
 use Rattle.order.proofs.place.Lts as lts
-use Rattle.order.proofs.link.Reads as link-reads
-use Rattle.order.proofs.set_link.Reads as set-link-reads
+use Rattle.rows.proofs.link.Reads as link-reads
+use Rattle.rows.proofs.set_link.Reads as set-link-reads
 use Rattle.order.proofs.spot.Reads as spot-reads
 
 returns : tie.Need-returns

@@ -9,9 +9,9 @@ use Rattle.order.proofs.sort_row.Tie as tie
 use Rattle.order.proofs.sort_row.Reads as reads
 use Rattle.order.proofs.sort_row.Lts as lts
 use Rattle.order.proofs.key_of.Reads as key-of-reads
-use Rattle.order.proofs.link.Reads as link-reads
+use Rattle.rows.proofs.link.Reads as link-reads
 use Rattle.order.proofs.place.Reads as place-reads
-use Rattle.order.proofs.set_link.Reads as set-link-reads
+use Rattle.rows.proofs.set_link.Reads as set-link-reads
 use Rattle.order.proofs.slot.Reads as slot-reads
 
 key-of-requires : tie.Need-key-of-requires

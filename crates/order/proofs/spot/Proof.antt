@@ -9,7 +9,7 @@ use Rattle.order.proofs.spot.Tie as tie
 use Rattle.order.proofs.spot.Reads as reads
 use Rattle.order.proofs.spot.Lts as lts
 use Rattle.order.proofs.goes_first.Reads as goes-first-reads
-use Rattle.order.proofs.link.Reads as link-reads
+use Rattle.rows.proofs.link.Reads as link-reads
 
 abbrev Inv-loop : tie.InvT-loop
 Inv-loop first next key c q n p₀ at₀ p at = Finite first next at × (spotOf key c (forestAt first next (getD first c 0)) p₀ (forestAt first next at₀) ≡ spotOf key c (forestAt first next (getD first c 0)) p (forestAt first next at))

@@ -11,7 +11,7 @@ use Rattle.order.proofs.bear.Reads as bear-reads
 use Rattle.order.proofs.clear.Reads as clear-reads
 use Rattle.order.proofs.gather.Reads as gather-reads
 use Rattle.order.proofs.lay.Reads as lay-reads
-use Rattle.order.proofs.link.Reads as link-reads
+use Rattle.rows.proofs.link.Reads as link-reads
 
 gather-requires : tie.Need-gather-requires
 gather-requires c κs =

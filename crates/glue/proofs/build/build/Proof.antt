@@ -8,7 +8,7 @@ use Rattle.glue.proofs.build.build.Tie as tie
 use Rattle.glue.proofs.build.build.Reads as reads
 use Rattle.glue.proofs.build.build.Lts as lts
 use Rattle.glue.proofs.build.apply_signs.Reads as apply-signs-reads
-use Rattle.glue.proofs.pool.entry.Reads as entry-reads
+use Rattle.rows.proofs.link.Reads as link-reads
 
 apply-signs-requires : tie.Need-apply-signs-requires
 apply-signs-requires c κs = (c .before .before .before .before .before .before .before .before .before .before .before .pre .0, holds-start _ _ (c .before .before .before .before .before .before .before .before .before .before .before .args .first .now) _ _ (c .before .before .before .before .before .before .before .before .before .before .before .pre .1))
@@ -17,7 +17,7 @@ same-length-3 : tie.Need-same-length-3
 same-length-3 c = c .before .before .before .before .before .before .before .before .before .before .before .before .before .before .before .before .apply-signs .kept .1 .1 .1 .0 ∙ length-set (c .before .before .before .before .before .before .before .before .before .before .before .before .before .before .before .before .before .before .before .before .before .before .before .before .before .before .before .before .args .first .now) 0 0
 
 returns : tie.Need-returns
-returns c = reading-end _ _ (c .before .before .before .before .before .before .before .before .before .before .before .before .before .before .before .before .apply-signs .ensures) _ _ _ (c .before .before .before .before .entry .ensures .0) (c .before .before .entry2 .ensures .0) (c .entry3 .ensures .0)
+returns c = reading-end _ _ (c .before .before .before .before .before .before .before .before .before .before .before .before .before .before .before .before .apply-signs .ensures) _ _ _ (c .before .before .before .before .link .ensures .0) (c .before .before .link2 .ensures .0) (c .link3 .ensures .0)
 
 pub build-spec : {M : Type 1} → statement M
 build-spec =

@@ -11,7 +11,7 @@ use Rattle.glue.proofs.gluing.depth_of.Statement.{statement}
 use Rattle.glue.proofs.gluing.depth_of.Tie as tie
 use Rattle.glue.proofs.gluing.depth_of.Reads as reads
 use Rattle.glue.proofs.gluing.depth_of.Lts as lts
-use Rattle.glue.proofs.merging.wide.Reads as wide-reads
+use Rattle.rows.proofs.wide.Reads as wide-reads
 
 abbrev Inv-loop : tie.InvT-loop
 Inv-loop parent label n x i₀ k₀ i k = (k ≤ n) × (i < n) × (depth n (table n parent label) x ≡ k + depth (n - k) (table n parent label) i)

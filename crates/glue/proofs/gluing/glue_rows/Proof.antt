@@ -14,7 +14,7 @@ use Rattle.glue.proofs.merging.meet_labels.Reads as meet-labels-reads
 use Rattle.glue.proofs.merging.merge_rows.Reads as merge-rows-reads
 use Rattle.glue.proofs.merging.or_else.Reads as or-else-reads
 use Rattle.glue.proofs.merging.renumber.Reads as renumber-reads
-use Rattle.glue.proofs.merging.wide.Reads as wide-reads
+use Rattle.rows.proofs.wide.Reads as wide-reads
 
 abbrev Inv-loop : tie.InvT-loop
 Inv-loop parent₀ label₀ from rows a b s1 d1 d2 n₀ x₀ y₀ s₀ d₀ e₀ parent label n x y s d e = Climb parent₀ label₀ from rows a b s1 d1 d2 parent label n x y s d e

@@ -6,11 +6,11 @@ use Rattle.glue.proofs.pool.exchange.Statement.{statement}
 use Rattle.glue.proofs.pool.exchange.Tie as tie
 use Rattle.glue.proofs.pool.exchange.Reads as reads
 use Rattle.glue.proofs.pool.exchange.Lts as lts
-use Rattle.glue.proofs.pool.entry.Reads as entry-reads
-use Rattle.glue.proofs.pool.put.Reads as put-reads
+use Rattle.rows.proofs.link.Reads as link-reads
+use Rattle.rows.proofs.set_link.Reads as set-link-reads
 
 returns : tie.Need-returns
-returns c = λ P L F sound. inverse-stands (pool P L F _ _) _ sound (c .before .before .before .before .before .before .before .before .before .before .before .before .before .before .pre .0) _ _ (c .before .before .before .before .before .before .before .before .before .before .entry .ensures .0) (c .before .before .before .before .before .before .before .before .entry2 .ensures .0) _ _ (c .before .before .before .before .before .before .put .ensures) (c .before .before .put2 .ensures)
+returns c = λ P L F sound. inverse-stands (pool P L F _ _) _ sound (c .before .before .before .before .before .before .before .before .before .before .before .before .before .before .pre .0) _ _ (c .before .before .before .before .before .before .before .before .before .before .link .ensures .0) (c .before .before .before .before .before .before .before .before .link2 .ensures .0) _ _ (c .before .before .before .before .before .before .set-link .ensures) (c .before .before .set-link2 .ensures)
 
 pub exchange-spec : {M : Type 1} → statement M
 exchange-spec =

@@ -9,16 +9,16 @@ use Rattle.glue.proofs.pool.push_edge.Tie as tie
 use Rattle.glue.proofs.pool.push_edge.Reads as reads
 use Rattle.glue.proofs.pool.push_edge.Lts as lts
 use Rattle.glue.proofs.pool.close.Reads as close-reads
-use Rattle.glue.proofs.pool.entry.Reads as entry-reads
+use Rattle.rows.proofs.link.Reads as link-reads
 
 slice-write-parent-2 : tie.Need-slice-write-parent-2
-slice-write-parent-2 c = let h = c .before .before .before .before .before .before .before .pre .1 .parents in let e = c .entry .ensures .0 in rw length-set (omega arith)
+slice-write-parent-2 c = let h = c .before .before .before .before .before .before .before .pre .1 .parents in let e = c .link .ensures .0 in rw length-set (omega arith)
 
 slice-write-label-2 : tie.Need-slice-write-label-2
-slice-write-label-2 c = let h = c .before .before .before .before .before .before .before .pre .1 .labels in let e = c .entry .ensures .0 in rw length-set (omega arith)
+slice-write-label-2 c = let h = c .before .before .before .before .before .before .before .pre .1 .labels in let e = c .link .ensures .0 in rw length-set (omega arith)
 
 returns : tie.Need-returns
-returns c = edge-stands _ _ _ (c .before .before .before .before .before .before .before .before .before .before .before .before .before .before .before .before .before .pre .1) (c .before .before .before .before .before .before .before .before .before .before .before .before .before .before .before .before .before .pre .0) (c .before .before .before .before .before .before .before .before .before .before .entry .ensures .0) _ _ _ (let e = c .before .before .before .before .before .before .before .before .before .before .entry .ensures .0 in omega arith) _ _ _ refl (c .before .before .before .before .before .before .close .ensures .0) (c .before .before .before .before .before .before .close .ensures .1) (c .before .before .before .before .before .before .close .ensures .2)
+returns c = edge-stands _ _ _ (c .before .before .before .before .before .before .before .before .before .before .before .before .before .before .before .before .before .pre .1) (c .before .before .before .before .before .before .before .before .before .before .before .before .before .before .before .before .before .pre .0) (c .before .before .before .before .before .before .before .before .before .before .link .ensures .0) _ _ _ (let e = c .before .before .before .before .before .before .before .before .before .before .link .ensures .0 in omega arith) _ _ _ refl (c .before .before .before .before .before .before .close .ensures .0) (c .before .before .before .before .before .before .close .ensures .1) (c .before .before .before .before .before .before .close .ensures .2)
 
 pub push-edge-spec : {M : Type 1} → statement M
 push-edge-spec =

@@ -6,11 +6,11 @@ use Rattle.glue.proofs.pool.push_empty.Statement.{statement}
 use Rattle.glue.proofs.pool.push_empty.Tie as tie
 use Rattle.glue.proofs.pool.push_empty.Reads as reads
 use Rattle.glue.proofs.pool.push_empty.Lts as lts
-use Rattle.glue.proofs.pool.entry.Reads as entry-reads
-use Rattle.glue.proofs.pool.put.Reads as put-reads
+use Rattle.rows.proofs.link.Reads as link-reads
+use Rattle.rows.proofs.set_link.Reads as set-link-reads
 
 returns : tie.Need-returns
-returns c = λ P L S D sound. empty-stands (pool P L _ S D) _ _ sound (c .before .before .before .before .before .before .before .pre .0) (c .before .before .before .before .entry .ensures .0) _ (c .before .before .put .ensures)
+returns c = λ P L S D sound. empty-stands (pool P L _ S D) _ _ sound (c .before .before .before .before .before .before .before .pre .0) (c .before .before .before .before .link .ensures .0) _ (c .before .before .set-link .ensures)
 
 pub push-empty-spec : {M : Type 1} → statement M
 push-empty-spec =

@@ -1,0 +1,104 @@
+// From an accepted word to the rows of its plain and of its minimal tree. What gluing works in is lent on to what comes after it: clearing a table
+// takes longer than most of the work on a short word.
+use glue::build::build;
+use limits::most::MOST_NODES;
+use tree::Codes;
+use tree::Links;
+use tree::Marks;
+ghost use Rattle.tree.specs.Tables.{Room};
+ghost use Rattle.query.specs.Trees.{Accepted, PlainRows, MinimalRows};
+
+// The rows that gluing takes: two nodes for each step, and one for each pending operand without one.
+const POOL: usize = 512;
+
+// The plain tree, as rows in image order. Returns how many there are.
+pub fn plain_rows(
+    word: &[u8],
+    code: &mut Codes,
+    mark: &mut Marks,
+    kids: &mut Links,
+    span: &mut Links,
+    up: &mut Links,
+) -> usize
+    requires { ⌜ Accepted (now word) × Room (now code) (now mark) (now kids) (now span) (now up) ⌝ }
+    ensures { λ r. ⌜ PlainRows (now (word .entry))
+        (now (code .exit)) (now (mark .exit)) (now (kids .exit)) (now (span .exit)) (now (up .exit)) r ⌝ }
+{
+    let mut parent = [0u16; POOL];
+    let mut label = [0u32; POOL];
+    let mut first = [0u16; MOST_NODES + 1];
+    let mut next = [0u16; MOST_NODES];
+    let mut count = [0u16; MOST_NODES + 1];
+    let mut row = [0u16; MOST_NODES];
+    let built = build(
+        word,
+        &mut parent,
+        &mut label,
+        &mut first,
+        &mut next,
+        &mut row,
+    );
+    let n = built.rows;
+    tree::plain_rows(
+        &parent,
+        &label,
+        n,
+        built.s,
+        built.d,
+        &mut first,
+        &mut next,
+        &mut count,
+        &mut row,
+        code,
+        mark,
+        kids,
+        span,
+        up,
+    );
+    n
+}
+
+// The minimal tree, likewise.
+pub fn minimal_rows(
+    word: &[u8],
+    code: &mut Codes,
+    mark: &mut Marks,
+    kids: &mut Links,
+    span: &mut Links,
+    up: &mut Links,
+) -> usize
+    requires { ⌜ Accepted (now word) × Room (now code) (now mark) (now kids) (now span) (now up) ⌝ }
+    ensures { λ r. ⌜ MinimalRows (now (word .entry))
+        (now (code .exit)) (now (mark .exit)) (now (kids .exit)) (now (span .exit)) (now (up .exit)) r ⌝ }
+{
+    let mut parent = [0u16; POOL];
+    let mut label = [0u32; POOL];
+    let mut first = [0u16; MOST_NODES + 1];
+    let mut next = [0u16; MOST_NODES];
+    let mut count = [0u16; MOST_NODES + 1];
+    let mut row = [0u16; MOST_NODES];
+    let built = build(
+        word,
+        &mut parent,
+        &mut label,
+        &mut first,
+        &mut next,
+        &mut row,
+    );
+    tree::minimal_rows(
+        &parent,
+        &label,
+        built.rows,
+        built.s,
+        built.d,
+        &mut first,
+        &mut next,
+        &mut count,
+        &mut row,
+        code,
+        mark,
+        kids,
+        span,
+        up,
+    )
+}
