@@ -1,6 +1,5 @@
 // Branches and a node's own factors, written into the caller's room. Factors are joined from the left: the first of them went to place `from`, so a
 // factor that goes to a later place is followed by the sign 4.
-ghost use mathlib.Core.Path.{_≡_};
 ghost use Prim.Native.Nat.{suc, _+_, _<_, _≤_};
 ghost use lib.ListN.{length, getD};
 ghost use lib.Dec.{ltb};

@@ -16,8 +16,9 @@ use Rattle.meaning.specs.Limits.{mostNodes}
 use Rattle.meaning.specs.Tree.{Forest, bare, tree, size}
 use Rattle.rows.specs.Rows.{tagAt, shape, mapT, treeRows, Holds, width, Counted, Hung, noRow, Rows}
 use Rattle.rows.proofs.Rows.{size-mapT, width-mapT, size-holds, holds-is, row-opens, rows-top, row-up}
-use Rattle.fold.specs.Kept.{goneRow, kept, left, keptTree, Remains, parentMoved, Movable, RowMoved, RowsKept}
-use Rattle.fold.proofs.Brothers.{kept-bare, kept-here, kept-away}
+use Rattle.onto.specs.Left.{goneRow, kept, left, keptTree}
+use Rattle.onto.proofs.Left.{kept-bare, kept-here, kept-away}
+use Rattle.fold.specs.Kept.{Remains, parentMoved, Movable, RowMoved, RowsKept}
 
 -- ------------------------------------------------------------------ the walk
 -- the nodes of a forest, each before what lies below it

@@ -7,19 +7,23 @@ use Prim.Native.Nat.{ℕ, suc, _+_, _≤_, _<_}
 use native.Mathlib.Omega.{arith}
 use native.Mathlib.Decide.{ℕ-discrete, decLt}
 use lib.ListN.{length, getD}
-use Rattle.meaning.specs.Tree.{Forest, bare, tree, size}
+use Rattle.meaning.specs.Tree.{Forest, bare, tree, Tag, size}
 use Rattle.meaning.specs.Folding.{Reduced, minimal}
 use Rattle.theory.proofs.Folding.{Equal, equal-trans, equal-tree}
 use Rattle.theory.proofs.Unique.{minimal-same}
 use Rattle.theory.proofs.Records.{same-ordered}
 use Rattle.rows.specs.Rows.{tagAt, below, shape, mapT, treeRows, Holds, Hung, width, noRow, Rows}
 use Rattle.rows.proofs.Rows.{Opens, holds-first, row-opens}
-use Rattle.fold.specs.Kept.{goneRow, left, leftBelow, keptTree, Stands, Top, Goes, NoneFold, ChildrenFolded, Whole, RowsFolded, Remains}
-use Rattle.fold.proofs.Brothers.{top-range, left-bare, left-here, left-away, left-ind}
-use Rattle.fold.proofs.Children.{below-same}
+use Rattle.onto.specs.Left.{goneRow, Brother, left, leftBelow, keptTree}
+use Rattle.onto.specs.Onto.{Stands}
+use Rattle.onto.proofs.Brothers.{brother-range}
+use Rattle.onto.proofs.Left.{left-bare, left-here, left-away, left-ind}
+use Rattle.brothers.specs.Brothers.{Goes, NoneFold, ChildrenFolded}
+use Rattle.brothers.proofs.Children.{below-same}
+use Rattle.fold.specs.Kept.{Whole, RowsFolded, Remains}
 
 -- ------------------------------------------------------------------ parents
-hung-top : (up : List ℕ) (p : ℕ) (F : Forest ℕ) → Hung up p F → (c : ℕ) → Top c F → getD up c 0 ≡ p
+hung-top : (up : List ℕ) (p : ℕ) (F : Forest ℕ) → Hung up p F → (c : ℕ) → Brother c F → getD up c 0 ≡ p
 hung-top up p bare h c t = absurd t
 hung-top up p (tree i k r) h c (inl e) = rw e (h .0)
 hung-top up p (tree i k r) h c (inr t) = hung-top up p r (h .2) c t
@@ -38,25 +42,29 @@ hung-below span up q u e (tree i k r) h g p l m =
 
 -- ------------------------------------------------------------------ brothers of which each is folded below
 module _ (code mark span up : List ℕ) (p u e : ℕ) (F : Forest ℕ) (h : Holds span u e F) where
+  abbrev M : Forest ℕ → Forest Tag
+  M = mapT (tagAt code mark)
+
+  abbrev B : ℕ → Forest Tag
+  B = leftBelow code mark span up
+
   -- where all are there, folded below, they fold onto the whole and back
-  equal-brothers : ((c : ℕ) → Top c F → getD up c 0 ≡ p)
-      → ((c : ℕ) → Top c F → Equal (mapT (tagAt code mark) (below span c)) (leftBelow code mark span up c))
-      → Equal (mapT (tagAt code mark) F) (left code mark up p F)
+  equal-brothers : ((c : ℕ) → Brother c F → getD up c 0 ≡ p) → ((c : ℕ) → Brother c F → Equal (M (below span c)) (B c)) → Equal (M F) (left code mark up p F)
   unfolding mapT
   equal-brothers =
       left-ind code mark span up p
-      (λ G L. ((c : ℕ) → Top c G → getD up c 0 ≡ p) → ((c : ℕ) → Top c G → Equal (mapT (tagAt code mark) (below span c)) (leftBelow code mark span up c))
-      → Equal (mapT (tagAt code mark) G) L) u e (λ a b. (tt, tt))
+      (λ G L. ((c : ℕ) → Brother c G → getD up c 0 ≡ p) → ((c : ℕ) → Brother c G → Equal (M (below span c)) (B c)) → Equal (M G) L) u e (λ a b. (tt, tt))
       (λ i r l o g f. (
-        λ d a b. equal-tree (tagAt code mark i) (mapT (tagAt code mark) (below span i)) (leftBelow code mark span up i) (mapT (tagAt code mark) r) (left code mark up p r) (b i (inl refl)) (f (λ c t. a c (inr t)) (λ c t. b c (inr t))),
+        λ d a b. equal-tree (tagAt code mark i) (M (below span i)) (B i) (M r) (left code mark up p r) (b i (inl refl))
+            (f (λ c t. a c (inr t)) (λ c t. b c (inr t))),
         λ n a b. absurd (n (a i (inl refl))),
-      )) u (omega arith) F h
+      )) F h
 
   -- where none folds among them and each is folded to the end below, they are folded to the end
-  reduced-brothers : NoneFold (left code mark up p F) → ((c : ℕ) → Top c F → Reduced (leftBelow code mark span up c)) → Reduced (left code mark up p F)
+  reduced-brothers : NoneFold (left code mark up p F) → ((c : ℕ) → Brother c F → Reduced (B c)) → Reduced (left code mark up p F)
   reduced-brothers =
-      left-ind code mark span up p (λ G L. NoneFold L → ((c : ℕ) → Top c G → Reduced (leftBelow code mark span up c)) → Reduced L) u e (λ a b. tt)
-      (λ i r l o g f. (λ d a b. (b i (inl refl), f (a .0) (λ c t. b c (inr t)), a .1, a .2), λ n a b. f a (λ c t. b c (inr t)))) u (omega arith) F h
+      left-ind code mark span up p (λ G L. NoneFold L → ((c : ℕ) → Brother c G → Reduced (B c)) → Reduced L) u e (λ a b. tt)
+      (λ i r l o g f. (λ d a b. (b i (inl refl), f (a .0) (λ c t. b c (inr t)), a .1, a .2), λ n a b. f a (λ c t. b c (inr t)))) F h
 
 apart-single : (code mark up : List ℕ) (p : ℕ) (F : Forest ℕ) → width F ≤ 1 → NoneFold (left code mark up p F)
 apart-single code mark up p bare l = rw (left-bare code mark up p) tt
@@ -103,7 +111,7 @@ module _ {code mark span up : List ℕ} {n : ℕ} (R : Whole code mark span up n
       }
 
   -- the brothers below row p, or the top: all are there
-  there : (p : ℕ) (F : Forest ℕ) → Hung up p F → (p < b) ⊎ (n ≤ p) → (c : ℕ) → Top c F → getD up′ c 0 ≡ p
+  there : (p : ℕ) (F : Forest ℕ) → Hung up p F → (p < b) ⊎ (n ≤ p) → (c : ℕ) → Brother c F → getD up′ c 0 ≡ p
   there p F h l c t = go l (T .only c) (hung-top up p F h c t)
     where
       go : (p < b) ⊎ (n ≤ p) → (getD up′ c 0 ≡ getD up c 0) ⊎ Went up up′ n b c → getD up c 0 ≡ p → getD up′ c 0 ≡ p
@@ -120,9 +128,9 @@ module _ {code mark span up : List ℕ} {n : ℕ} (R : Whole code mark span up n
             same-ordered (keptTree code mark span up′ n) (minimal (treeRows code mark span n))
             (minimal-same (treeRows code mark span n) (keptTree code mark span up′ n)
             (reduced-brothers code mark span up′ noRow 0 n (shape span n) (R .laid) (apart-single code mark up′ noRow (shape span n) (R .single))
-            (λ c t. T .reduced c (omega arith) (top-range span 0 n (shape span n) (R .laid) c t .1)))
+            (λ c t. T .reduced c (omega arith) (brother-range span 0 n (shape span n) (R .laid) c t .1)))
             (equal-brothers code mark span up′ noRow 0 n (shape span n) (R .laid) (there R T noRow (shape span n) (R .hung) (inr (omega (arith, R .few))))
-            (λ c t. T .equal c (omega arith) (top-range span 0 n (shape span n) (R .laid) c t .1))));
+            (λ c t. T .equal c (omega arith) (brother-range span 0 n (shape span n) (R .laid) c t .1))));
         only = λ j. out j (T .only j);
       }
     where
@@ -137,10 +145,10 @@ module _ {code mark span up : List ℕ} {n : ℕ} (R : Whole code mark span up n
   o = row-opens span n (R .laid) p (omega (arith, T .until))
 
   behind : (q : ℕ) → p < q → q < n → leftBelow code mark span up′ q ≡ leftBelow code mark span up₁ q
-  behind q l m = let w = row-opens span n (R .laid) q m in below-same code mark span (C .only) q l (omega (arith, w .inside, R .few)) (w .some) (w .held)
+  behind q l m = below-same code mark span (C .only) (row-opens span n (R .laid) q m) l (R .few)
 
-  inside : (c : ℕ) → Top c (below span p) → (p < c) × (c < n)
-  inside c t = let z = top-range span (suc p) (p + getD span p 0) (below span p) (o .held) c t in (z .0, omega (arith, o .inside))
+  inside : (c : ℕ) → Brother c (below span p) → (p < c) × (c < n)
+  inside c t = let z = brother-range span (suc p) (p + getD span p 0) (below span p) (o .held) c t in (z .0, omega (arith, o .inside))
 
   equal-p : Equal (mapT (tagAt code mark) (below span p)) (leftBelow code mark span up′ p)
   equal-p =

@@ -1,20 +1,18 @@
-// Many words in one run: standard input has one word a line, in hex, with blanks between its bytes. Each line is written again, and below
-// it what the program writes for its word. A line that starts with `#` is a comment: it is written again and nothing more.
+// Many words in one run: standard input has one word a line, in hex; what is no hex digit counts for nothing. Each line is written again, and
+// below it what the program writes for its word. A line that starts with `#` is a comment: it is written again and nothing more.
 use libc::STDIN_FILENO;
 use libc::STDOUT_FILENO;
 use report::LONGEST_TEXT;
-ghost use Prim.Native.Nat.{_≤_, _<_};
+ghost use mathlib.Core.Path.{_≡_};
+ghost use Prim.Native.Nat.{_+_, _^_, _≤_, _<_};
 ghost use lib.ListN.{length};
+ghost use Rattle.io.specs.Counts.{Counts};
 
 // What stands for a digit where there is none.
 const NO_DIGIT: u8 = 16;
 
-// What begins at a place of a line: a byte's two digits, a blank, or neither.
-enum Mark {
-    Byte(u8),
-    Blank,
-    Bad,
-}
+// A byte more than the longest word has: enough for a word to be refused.
+const WORD: usize = 4097;
 
 // The value of a hex digit.
 fn value(c: u8) -> u8
@@ -22,42 +20,52 @@ fn value(c: u8) -> u8
 {
     match c {
         b'0'..=b'9' => c - b'0',
-        b'a'..=b'f' => c - b'a' + 10,
         b'A'..=b'F' => c - b'A' + 10,
         _ => NO_DIGIT,
     }
 }
 
-// The value of the digit at a place of the line or behind its end.
-fn digit_at(line: &[u8], at: usize) -> u8
-    ensures { λ r. ⌜ r ≤ 16 ⌝ }
+// The next digit goes into its byte of the word, behind the one that is there; how many digits there are then.
+fn put_digit(word: &mut [u8], digits: usize, digit: u8) -> usize
+    requires { ⌜ digits + 1 < 2 ^ 64 ⌝ }
+    ensures { λ r. ⌜ r ≤ digits + 1 ⌝ }
 {
-    if at < line.len() {
-        value(line[at])
+    let place = digits / 2;
+    if NO_DIGIT <= digit {
+        return digits;
+    }
+    if word.len() <= place {
+        return digits;
+    }
+    word[place] = word[place] % 16 * 16 + digit;
+    digits + 1
+}
+
+fn within(word: &[u8], bytes: usize) -> usize
+    ensures { λ r. ⌜ Counts r (now (word .entry)) ⌝ }
+{
+    if bytes < word.len() {
+        bytes
     } else {
-        NO_DIGIT
+        word.len()
     }
 }
 
-fn mark_at(line: &[u8], at: usize) -> Mark
-    requires { ⌜ at < length (now line) ⌝ }
+// The bytes of the line, as many as the word holds; how many they are.
+fn bytes_of(line: &[u8], word: &mut [u8]) -> usize
+    ensures { λ r. ⌜ Counts r (now (word .exit)) ⌝ }
 {
-    if line[at] == b' ' {
-        return Mark::Blank;
+    let mut digits: usize = 0;
+    for at in 0..line.len() {
+        digits = put_digit(word, digits, value(line[at]));
     }
-    let high = digit_at(line, at);
-    let low = digit_at(line, at + 1);
-    if high == NO_DIGIT {
-        return Mark::Bad;
-    }
-    if low == NO_DIGIT {
-        return Mark::Bad;
-    }
-    Mark::Byte(16 * high + low)
+    within(word, digits / 2)
 }
 
-fn complain() {
-    io::write_all(STDOUT_FILENO, b"no word\n");
+fn empty_word() -> [u8; WORD]
+    ensures { λ r. ⌜ 4097 ≡ length r ⌝ }
+{
+    [0; WORD]
 }
 
 // What the program writes for the word.
@@ -67,65 +75,33 @@ fn write_text(word: &[u8]) {
     io::write_all(STDOUT_FILENO, &text[..length]);
 }
 
-// What the program writes for the word of the line, which has at most 4,097 bytes.
 fn report_line(line: &[u8]) {
-    let mut word = [0u8; 4097];
-    let mut length: usize = 0;
-    let mut at: usize = 0;
-    while at < line.len() {
-        match mark_at(line, at) {
-            Mark::Byte(b) => {
-                if 4096 < length {
-                    complain();
-                    return;
-                }
-                word[length] = b;
-                length += 1;
-                at += 2;
-            }
-            Mark::Blank => {
-                at += 1;
-            }
-            Mark::Bad => {
-                complain();
-                return;
-            }
-        }
-    }
-    write_text(&word[..length]);
+    let mut word = empty_word();
+    let n = bytes_of(line, &mut word);
+    write_text(&word[..n]);
 }
 
-fn is_comment(line: &[u8]) -> bool {
-    if 0 < line.len() {
-        line[0] == b'#'
-    } else {
-        false
-    }
-}
-
-fn copy_line(line: &[u8]) {
+fn answer_line(line: &[u8])
+    requires { ⌜ 0 < length (now line) ⌝ }
+{
     io::write_all(STDOUT_FILENO, line);
-    io::write_all(STDOUT_FILENO, b"\n");
-}
-
-fn answer_line(line: &[u8]) {
-    copy_line(line);
-    if !is_comment(line) {
-        report_line(line);
+    if line[0] == b'#' {
+        return;
     }
+    report_line(line);
 }
 
-// Where the line that begins at a place ends.
+// The place behind the line that begins at a place.
 fn line_end(text: &[u8], from: usize) -> usize
-    requires { ⌜ from ≤ length (now text) ⌝ }
-    ensures { λ r. ⌜ (from ≤ r) × (r ≤ length (now (text .entry))) ⌝ }
+    requires { ⌜ from < length (now text) ⌝ }
+    ensures { λ r. ⌜ (from < r) × (r ≤ length (now (text .entry))) ⌝ }
 {
     let mut at = from;
     while at < text.len() {
-        if text[at] == b'\n' {
+        at += 1;
+        if text[at - 1] == b'\n' {
             return at;
         }
-        at += 1;
     }
     at
 }
@@ -135,7 +111,7 @@ fn answer_lines(text: &[u8]) {
     while at < text.len() {
         let end = line_end(text, at);
         answer_line(&text[at..end]);
-        at = end + 1;
+        at = end;
     }
 }
 

@@ -3,20 +3,16 @@
 use mathlib.Core.Path.{_≡_}
 use mathlib.Core.Logic.{_↔_, _⊎_}
 use mathlib.Core.List.{List, []}
-use mathlib.Core.Bool.{true, false}
+use mathlib.Core.Bool.{true}
 use Prim.Native.Nat.{ℕ, _+_, _≤_, _<_}
 use lib.ListN.{length, getD}
 use Rattle.meaning.specs.Limits.{mostNodes, mostRows}
-use Rattle.meaning.specs.TreeQuery.{Fits}
 use Rattle.meaning.specs.Matching.{goodTable, docOf, bitAt, LaysAt, tableBytes}
-use Rattle.bits.specs.Bits.{bitOf, OnlyRow}
-use Rattle.rows.specs.Rows.{labOf, tagAt, shape, below, mapT, Holds}
+use Rattle.bits.specs.Bits.{bitOf}
+use Rattle.rows.specs.Rows.{tagAt, shape, below, mapT, Holds}
+use Rattle.document.specs.Nodes.{RowClear}
 
 -- ------------------------------------------------------------------ one row
--- node x is in the document, and what stands in a query row fits its label
-abbrev pub Suits : ℕ → List ℕ → ℕ → Type 0
-Suits code labels x = (x < length labels) × Fits (labOf code) (getD labels x 0)
-
 -- the parent numbers can be read and marked
 pub record Parents (parents : List ℕ) : Type 0 where
   pub some : 1 ≤ length parents
@@ -39,20 +35,6 @@ ParentOf w c parents e v = (x : ℕ) × (0 < x) × (x < e) × (bitAt w c x ≡ t
 pub record Added (before : List ℕ) (P : ℕ → Type 0) (after : List ℕ) : Type 0 where
   pub same : length after ≡ length before
   pub flags : (v : ℕ) → v < mostRows → (getD after v 0 ≡ 1) ↔ ((getD before v 0 ≡ 1) ⊎ P v)
-
--- the nodes of row u below e are those that are so, and it has no others
-pub record RowUpTo (w : List ℕ) (u : ℕ) (P : ℕ → Type 0) (e : ℕ) : Type 0 where
-  pub low : (v : ℕ) → v < e → (bitAt w u v ≡ true) ↔ P v
-  pub high : (v : ℕ) → e ≤ v → v < mostRows → bitAt w u v ≡ false
-
--- the nodes of row u are those that are so
-pub record RowIs (before : List ℕ) (u : ℕ) (P : ℕ → Type 0) (after : List ℕ) : Type 0 where
-  pub only : OnlyRow before u after
-  pub bits : (v : ℕ) → v < mostRows → (bitAt after u v ≡ true) ↔ P v
-
--- a row in which no bit is set
-abbrev pub RowClear : List ℕ → ℕ → Type 0
-RowClear w u = (v : ℕ) → v < mostRows → bitAt w u v ≡ false
 
 -- a row whose bits stand for nodes of the document
 abbrev pub RowInside : List ℕ → ℕ → List ℕ → Type 0

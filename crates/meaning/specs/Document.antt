@@ -1,6 +1,7 @@
 -- Documents (paper, definition 3.1): "A document is a finite unordered tree with at least one node, each labelled with a whole number."
 -- It is a table with one row for each node: row 0 is the root, and every other row's parent number is smaller than its own.
--- That each finite labelled tree has such a table, with the same labels and the same children, and each such table is such a tree, is proved in theory (Document).
+-- That each finite labelled tree has such a table, with the same labels and the same children, and each such table is such a tree, is
+-- proved in theory (Document).
 use mathlib.Core.Path.{_≡_}
 use mathlib.Core.List.{List}
 use Prim.Native.Nat.{ℕ, _<_}

@@ -1,6 +1,7 @@
 -- Building the tree query of an expression by gluing (01, Tree queries; paper, figures 9 and 10). None is empty.
 -- "Gluing two nodes glues their parents too, level by level: between two trees until one of them has no further ancestor, inside one tree
--- until the two ancestors are the same node. It fails, giving empty, on two different labels, or inside one tree when the two lie at different depths."
+-- until the two ancestors are the same node. It fails, giving empty, on two different labels, or inside one tree when the two lie at
+-- different depths."
 use mathlib.Core.Path.{_≡_}
 use mathlib.Core.Option.{Option, none, some}
 use mathlib.Core.List.{[], _∷_, _++_, map}

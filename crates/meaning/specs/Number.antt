@@ -49,6 +49,10 @@ abbrev pub notAbove : ℕ → Got → Got
 notAbove top (got v n) = cond (leb v top) (got v n) broken
 notAbove top broken = broken
 
+-- the number at a place of the bytes; one above `top` cannot be read
+abbrev pub readUpTo : ℕ → List ℕ → ℕ → Got
+readUpTo top bytes at = notAbove top (groups true (drop at bytes))
+
 -- the sign at a place of the word
 unfoldable pub readNumber : List ℕ → ℕ → Got
-readNumber word at = notAbove largestSign (groups true (drop at word))
+readNumber = readUpTo largestSign

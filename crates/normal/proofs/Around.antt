@@ -62,7 +62,8 @@ module _ {code mark kids span up : List ℕ} {n : ℕ} (R : Rows code mark kids 
 
     pub some-here : (u e : ℕ) (F : Forest ℕ) → Holds span u e F → e ≤ n → u ≤ t → t < e → someTree bothIn (mapT (tagged code s d) F) ≡ true
     some-here u e bare h l m b = absurd (omega arith)
-    some-here u e (tree i k r) h l m b = go (decLt t (u + getD span u 0)) (λ a. some-here (u + getD span u 0) e r (holds-first span u e i k r h .2) l a b)
+    some-here u e (tree i k r) h l m b = go (decLt t (u + getD span u 0))
+        (λ a. some-here (u + getD span u 0) e r (holds-first span u e i k r h .2) l a b)
       where
         go : Dec (t < u + getD span u 0) → (u + getD span u 0 ≤ t → someTree bothIn (mapT (tagged code s d) r) ≡ true)
             → someTree bothIn (mapT (tagged code s d) (tree i k r)) ≡ true
@@ -97,7 +98,8 @@ module _ {code mark kids span up : List ℕ} {n : ℕ} (R : Rows code mark kids 
             q,
           )
 
-      at-below : (u ≡ t → ⊥) → Covers span u t → ((v : List Expr) → factors (under code span s d u) v ≡ At (v ++ wayTo (under code span t t u))) → F ≡ At (way ++ W)
+      at-below : (u ≡ t → ⊥) → Covers span u t → ((v : List Expr) → factors (under code span s d u) v ≡ At (v ++ wayTo (under code span t t u)))
+          → F ≡ At (way ++ W)
       unfolding under wayTo
       at-below q v ih =
           let o = row-open R u l in

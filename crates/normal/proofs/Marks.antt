@@ -17,7 +17,12 @@ mapT-same f g span u e bare h s = refl
 mapT-same f g span u e (tree i k r) h s =
     let w = size-holds span u e (tree i k r) h in
     let v = size-holds span (suc i + size k) e r (h .3) in
-    rw (s i (omega (arith, h .0)), mapT-same f g span (suc i) (suc i + size k) k (h .2) (λ j l. s j (omega arith)), mapT-same f g span (suc i + size k) e r (h .3) s)
+    rw (
+      s i (omega (arith, h .0)),
+      mapT-same f g span (suc i) (suc i + size k) k (h .2) (λ j l. s j (omega arith)),
+      mapT-same f g span
+          (suc i + size k) e r (h .3) s,
+    )
 
 module _ {code mark kids span up : List ℕ} {n : ℕ} (Q : QueryRows code mark kids span up n) (ne : n ≡ 0 → ⊥) where
   some : 0 < n

@@ -9,7 +9,7 @@ use borrow.Author.Tests.{lt-ltb, le-ltb}
 use Rattle.meaning.specs.Basics.{pick}
 use Rattle.meaning.specs.Number.{numF, num}
 use Rattle.theory.proofs.Numbers.{num-back}
-use Rattle.order.specs.declared.Order.the-variants.{Before, After}
+use Rattle.order.specs.declared.brothers.Order.the-variants.{Before, After}
 use Rattle.order.specs.Links.{thenBy, cmpN}
 use Rattle.order.specs.Keys.{written, keyOf}
 use Rattle.order.proofs.Comparing.{then-assoc, cmp-lt, cmp-gt, cmp-eq, pair-cmp, same-cmp, cmpL, cmp-same}

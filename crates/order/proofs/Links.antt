@@ -7,8 +7,8 @@ use native.Mathlib.Omega.{arith}
 use lib.ListN.{length, getD}
 use borrow.Author.Tests.{lt-ltb, le-ltb}
 use Rattle.meaning.specs.Tree.{Forest, bare, tree, size}
-use Rattle.order.specs.declared.Order.{Order}
-use Rattle.order.specs.declared.Order.the-variants.{Before, Same, After}
+use Rattle.order.specs.declared.brothers.Order.{Order}
+use Rattle.order.specs.declared.brothers.Order.the-variants.{Before, Same, After}
 use Rattle.order.proofs.Comparing.{cmp-lt, cmp-gt, cmp-eq}
 use Rattle.order.specs.Links.{forestFrom, forestAt, Linked, height, Finite, thenBy, cmpN, cmpF, upTo, goesFirst, spotOf}
 

@@ -8,8 +8,8 @@ use Prim.Native.Nat.{ℕ, zero, suc, _<_, _≤_, max}
 use lib.ListN.{length, getD}
 use lib.Dec.{ltb}
 use Rattle.meaning.specs.Tree.{Forest, bare, tree, size}
-use Rattle.order.specs.declared.Order.{Order}
-use Rattle.order.specs.declared.Order.the-variants.{Before, Same, After}
+use Rattle.order.specs.declared.brothers.Order.{Order}
+use Rattle.order.specs.declared.brothers.Order.the-variants.{Before, Same, After}
 
 -- the forest whose first tree stands at row c, at most m links deep
 unfoldable pub forestFrom : ℕ → List ℕ → List ℕ → ℕ → Forest ℕ

@@ -8,8 +8,8 @@ use tree::Marks;
 ghost use Rattle.tree.specs.Tables.{Room};
 ghost use Rattle.query.specs.Trees.{Accepted, PlainRows, MinimalRows};
 
-// The rows that gluing takes: two nodes for each step, and one for each pending operand without one.
-const POOL: usize = 512;
+// The rows that gluing is lent: an operand has at most one more than it has steps, so 255 steps and 256 pending operands use 511.
+const POOL_ROWS: usize = 512;
 
 // The plain tree, as rows in image order. Returns how many there are.
 pub fn plain_rows(
@@ -24,8 +24,8 @@ pub fn plain_rows(
     ensures { λ r. ⌜ PlainRows (now (word .entry))
         (now (code .exit)) (now (mark .exit)) (now (kids .exit)) (now (span .exit)) (now (up .exit)) r ⌝ }
 {
-    let mut parent = [0u16; POOL];
-    let mut label = [0u32; POOL];
+    let mut parent = [0u16; POOL_ROWS];
+    let mut label = [0u32; POOL_ROWS];
     let mut first = [0u16; MOST_NODES + 1];
     let mut next = [0u16; MOST_NODES];
     let mut count = [0u16; MOST_NODES + 1];
@@ -71,8 +71,8 @@ pub fn minimal_rows(
     ensures { λ r. ⌜ MinimalRows (now (word .entry))
         (now (code .exit)) (now (mark .exit)) (now (kids .exit)) (now (span .exit)) (now (up .exit)) r ⌝ }
 {
-    let mut parent = [0u16; POOL];
-    let mut label = [0u32; POOL];
+    let mut parent = [0u16; POOL_ROWS];
+    let mut label = [0u32; POOL_ROWS];
     let mut first = [0u16; MOST_NODES + 1];
     let mut next = [0u16; MOST_NODES];
     let mut count = [0u16; MOST_NODES + 1];

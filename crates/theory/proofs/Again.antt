@@ -50,7 +50,8 @@ pub minimal-tree-within : (word : List ℕ) (e : Expr) → readWord word ≡ ans
 minimal-tree-within word e r = ordered-within (minimal (plainTree (plain e))) (minimal-within (plainTree (plain e)) (plain-within word e r))
 
 -- "At most 1,538 bytes."
-pub images-short : (word : List ℕ) (e : Expr) → readWord word ≡ answered e → (length (plainImage (plain e)) ≤ 1538) × (length (minimalImage (plain e)) ≤ 1538)
+pub images-short : (word : List ℕ) (e : Expr) → readWord word ≡ answered e
+    → (length (plainImage (plain e)) ≤ 1538) × (length (minimalImage (plain e)) ≤ 1538)
 images-short word e r =
     let p = plain-within word e r in
     let m = minimal-within (plainTree (plain e)) p in
@@ -68,7 +69,8 @@ form-accepted word e r =
     (short, read-word (normalOf (plain e)) (normal-labels InRange F (w .labels)) (omega arith) (normal-need F few) (omega arith))
 
 -- "the normal form read in again gives the same minimal tree", and the same normal form
-pub same-again : (e : Expr) → (minimalTree (plain (normalOf (plain e))) ≡ minimalTree (plain e)) × (normalForm (plain (normalOf (plain e))) ≡ normalForm (plain e))
+pub same-again : (e : Expr)
+    → (minimalTree (plain (normalOf (plain e))) ≡ minimalTree (plain e)) × (normalForm (plain (normalOf (plain e))) ≡ normalForm (plain e))
 same-again e =
     let z : minimalTree (plain (normalOf (plain e))) ≡ minimalTree (plain e) = sym (one-tree e (normalOf (plain e)) (λ D g m n. same-normal e D m n)) in
     (z, ap (λ f. wordOf (normal f)) z)

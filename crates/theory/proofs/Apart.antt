@@ -225,7 +225,8 @@ module _ {A B : Table} (ta : Tree A) (tb : Tree B) (a b : ℕ) (liveA : Live A a
     edge-left : (i p : ℕ) (l : Lab) → at A i ≡ some (node (some p) l) → (k : Lab) × (at (g .rows) (g .to i) ≡ some (node (some (g .to p)) k))
     edge-left i p l e = edge-glued r i p l (at-left A B i (look-lt A i e) ∙ e)
 
-    edge-right : (j q : ℕ) (k : Lab) → at B j ≡ some (node (some q) k) → (l : Lab) × (at (g .rows) (g .to (length A + j)) ≡ some (node (some (g .to (length A + q))) l))
+    edge-right : (j q : ℕ) (k : Lab) → at B j ≡ some (node (some q) k)
+        → (l : Lab) × (at (g .rows) (g .to (length A + j)) ≡ some (node (some (g .to (length A + q))) l))
     edge-right j q k e = edge-glued r (length A + j) (length A + q) k (at-right A B j ∙ ap (mapped (relink (shift A))) e)
 
     -- glued nodes have glued parents, until one of them has none

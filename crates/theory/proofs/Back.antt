@@ -46,7 +46,8 @@ module _ (D : Doc) (On : Tag → ℕ → Type 0) where
   seek-lies tag f (j ∷ js) bare v i x c = absurd x
   seek-lies tag f (j ∷ js) (tree w below later) v i (u, o, x, y) c = go (seek-lies tag f js later v i y) (ℕ-discrete j i) c
     where
-      go : (Among i js → LiesAt v (tag i) (f i) (seek js later i)) → (d : Dec (j ≡ i)) → (j ≡ i) ⊎ Among i js → LiesAt v (tag i) (f i) (pick d (w, below) (seek js later i))
+      go : (Among i js → LiesAt v (tag i) (f i) (seek js later i)) → (d : Dec (j ≡ i)) → (j ≡ i) ⊎ Among i js
+          → LiesAt v (tag i) (f i) (pick d (w, below) (seek js later i))
       go ih (yes e) c′ = subst (λ z. LiesAt v (tag z) (f z) (w, below)) e (u, o, x)
       go ih (no ne) (inl e) = absurd (ne e)
       go ih (no ne) (inr c′) = ih c′
@@ -78,7 +79,8 @@ module _ (D : Doc) (m n : ℕ) (Q : Query) (q : TreeQuery Q) (places : Forest �
   root-found : (i : ℕ) (l : Lab) → at T i ≡ some (node none l) → Found none 0 i
   root-found i l e = let z : N - 0 ≡ N = omega arith in rw z (seek-lies D (OnPair D m n) (tagOf Q) (grow N Q) (kidsFrom none T 0) places none i lies (kid-of-row none T i l e))
 
-  kid-found : (k i p : ℕ) (l : Lab) → at T i ≡ some (node (some p) l) → k < N → LiesOn D (OnPair D m n) (grow (N - k) Q p) ((found k p) .1) (some ((found k p) .0))
+  kid-found : (k i p : ℕ) (l : Lab) → at T i ≡ some (node (some p) l) → k < N
+      → LiesOn D (OnPair D m n) (grow (N - k) Q p) ((found k p) .1) (some ((found k p) .0))
       → Found (some ((found k p) .0)) (suc k) i
   kid-found k i p l e lt x =
       let z : N - k ≡ suc (N - suc k) = omega arith in
@@ -100,7 +102,8 @@ module _ (D : Doc) (m n : ℕ) (Q : Query) (q : TreeQuery Q) (places : Forest �
       below none x = x .2
       below (some p′) x = x .2
 
-      go : Live T p × (lev i ≡ suc (lev p)) → ((v : Option ℕ) (l′ : Lab) → at T p ≡ some (node v l′) → lev p ≡ k → FoundRow k p v) → FoundRow (suc k) i (some p)
+      go : Live T p × (lev i ≡ suc (lev p)) → ((v : Option ℕ) (l′ : Lab) → at T p ≡ some (node v l′) → lev p ≡ k → FoundRow k p v)
+          → FoundRow (suc k) i (some p)
       go ((v, l′, e′), o) ih =
           let lt = level-bound (q .tree) i (some p, l, e) in
           let z : suc k - 1 ≡ k = omega arith in

@@ -48,7 +48,8 @@ lays-unmarked D m n (tree a k r) v = (
 )
 
 -- the bit of a node (a, with k below it) at v, and containment mappings of that part
-pub bit-mapping : (D : Doc) (a : Tag) (k : Forest Tag) (v : ℕ) → TreeQuery (tableOf (part a k)) × (LaysAt D a k v ↔ Selects (tableOf (part a k)) D v v)
+pub bit-mapping : (D : Doc) (a : Tag) (k : Forest Tag) (v : ℕ)
+    → TreeQuery (tableOf (part a k)) × (LaysAt D a k v ↔ Selects (tableOf (part a k)) D v v)
 bit-mapping D a k v = (q, (λ b. (tree-means Q q D v v) .1 (subst (λ f. Takes f D v v) (sym e) (up b)), λ s. down (subst (λ f. Takes f D v v) e ((tree-means Q q D v v) .0 s))))
   where
     Q : Query

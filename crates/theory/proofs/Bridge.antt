@@ -33,7 +33,8 @@ module _ (D : Doc) (m n : ℕ) (Q : Query) (h : ℕ → ℕ) (lay : Laying D (Q 
       go (no np) = tt
 
   -- a child of u lies below where u lies
-  row-spot : (u v : Option ℕ) (j : ℕ) (k : Forest Tag) → ((l : Lab) → RowKept D h j (some (node u l)) → Under D v (h j)) → Lays D (OnPair D m n) k (some (h j))
+  row-spot : (u v : Option ℕ) (j : ℕ) (k : Forest Tag) → ((l : Lab) → RowKept D h j (some (node u l)) → Under D v (h j))
+      → Lays D (OnPair D m n) k (some (h j))
       → Among j (kidsFrom u (Q .rows) 0) → Spot D (OnPair D m n) v (tagOf Q j) k
   row-spot u v j k under x c =
       let w = row-of-kid u (Q .rows) j c in
@@ -50,7 +51,8 @@ module _ (D : Doc) (m n : ℕ) (Q : Query) (h : ℕ → ℕ) (lay : Laying D (Q 
       (λ j c. row-spot none none j (grow (length (Q .rows)) Q j) (λ l o. o .0) (grow-lays (length (Q .rows)) j) c)
 
 -- a tree with a node takes exactly where it can be laid
-takes-lays : (f : Forest Tag) → (a : Tag) × (k : Forest Tag) × (f ≡ tree a k bare) → (D : Doc) (m n : ℕ) → Takes f D m n ↔ Lays D (OnPair D m n) f none
+takes-lays : (f : Forest Tag) → (a : Tag) × (k : Forest Tag) × (f ≡ tree a k bare) → (D : Doc) (m n : ℕ)
+    → Takes f D m n ↔ Lays D (OnPair D m n) f none
 takes-lays bare (a, k, e) D m n = never cc
 takes-lays (tree b j r) w D m n = (λ x. x, λ x. x)
 

@@ -14,6 +14,7 @@ use Rattle.meaning.specs.Expression.{Agree}
 use Rattle.meaning.specs.TreeQuery.{Lab, any, lab, Query, TreeQuery, Fits, Selects}
 use Rattle.meaning.specs.Tree.{Forest, bare, tree, Tag, size, Any, treeOf, Under, Lays, MarkOn, OnPair, Takes}
 use Rattle.meaning.specs.Folding.{LabLe, MarkLe, TagLe, Folds, Onto}
+use Rattle.meaning.specs.Image.{labCode}
 use Rattle.theory.proofs.Count.{count, src, dst}
 use Rattle.theory.proofs.Look.{never, look-lt, look-there, look-map}
 use Rattle.theory.proofs.Labels.{LabIn, LabsIn}
@@ -160,30 +161,28 @@ module _ (c : ℕ) (a₀ : Tag) (k₀ : Forest Tag) (oneS : count src (tree a₀
   lays-folds bare i y e av x = tt
   lays-folds (tree t u r) i y e (av, avu, avr) ((j, ch, on, lu), lr) = (go (child-entry i j y e ch) (λ x ex. lays-folds u j x ex avu lu), lays-folds r i y e avr lr)
     where
-      go : (x : Entry) × (look S j ≡ some x) × Has (x .tag) (x .kids) (y .kids) → ((x : Entry) → look S j ≡ some x → Folds u (x .kids)) → Any (Onto t u) (y .kids)
+      go : (x : Entry) × (look S j ≡ some x) × Has (x .tag) (x .kids) (y .kids) → ((x : Entry) → look S j ≡ some x → Folds u (x .kids))
+          → Any (Onto t u) (y .kids)
       go (x, ex, h) ih = any-map (λ b k (eb, ek). (subst (TagLe t) eb (tag-le t j x ex av on), subst (Folds u) ek (ih x ex))) (y .kids) h
 
   -- a tree without the label c that takes this tree's own s and d folds onto its top or onto a node below
-  pub takes-folds : (t : Tag) (u : Forest Tag) → LabsIn (λ l. l ≢ c) (tree t u bare) → Takes (tree t u bare) D (placeOf src F) (placeOf dst F) → Deep (Onto t u) F
+  pub takes-folds : (t : Tag) (u : Forest Tag) → LabsIn (λ l. l ≢ c) (tree t u bare) → Takes (tree t u bare) D (placeOf src F) (placeOf dst F)
+      → Deep (Onto t u) F
   takes-folds t u (av, avu, tt′) ((v, lt, on, lu), z) =
       let w = in-canon c F v lt in
       entry-deep (Onto t u) F none 0 v (w .0) (w .1) (tag-le t v (w .0) (w .1) av on, lays-folds u v (w .0) (w .1) avu lu)
 
 -- ------------------------------------------------------------------ a label that is found nowhere
-abbrev above : Lab → ℕ
-above any = 0
-above (lab l) = suc l
-
 -- above every label of the forest
 abbrev pub fresh : Forest Tag → ℕ
 fresh bare = 0
-fresh (tree a k r) = above (a .lab) + (fresh k + fresh r)
+fresh (tree a k r) = labCode (a .lab) + (fresh k + fresh r)
 
 pub fresh-labels : (f : Forest Tag) (c : ℕ) → fresh f ≤ c → LabsIn (λ l. l ≢ c) f
 fresh-labels bare c le = tt
 fresh-labels (tree a k r) c le = (go (a .lab) (omega arith), fresh-labels k c (omega arith), fresh-labels r c (omega arith))
   where
-    go : (l : Lab) → above l ≤ c → LabIn (λ x. x ≢ c) l
+    go : (l : Lab) → labCode l ≤ c → LabIn (λ x. x ≢ c) l
     go any le′ = tt
     go (lab l) le′ = λ e. omega arith
 
@@ -212,11 +211,13 @@ module _ (D : Doc) (m n : ℕ) (b : Tag) (j : Forest Tag) where
   folds-contained a k x l = (deep-lays (tree a k bare) none x l, tt)
 
 -- ------------------------------------------------------------------ heights
-abbrev height : Forest Tag → ℕ
+-- the number of levels
+abbrev pub height : {A : Type 0} → Forest A → ℕ
 height bare = 0
 height (tree a k r) = max (suc (height k)) (height r)
 
-any-height : (P : Tag → Forest Tag → Type 0) (h : ℕ) (g : Forest Tag) → ((b : Tag) (j : Forest Tag) → P b j → h ≤ height j) → Any P g → suc h ≤ height g
+any-height : (P : Tag → Forest Tag → Type 0) (h : ℕ) (g : Forest Tag) → ((b : Tag) (j : Forest Tag) → P b j → h ≤ height j) → Any P g
+    → suc h ≤ height g
 any-height P h bare low x = absurd x
 any-height P h (tree b j r) low (inl p) = let z = low b j p in omega arith
 any-height P h (tree b j r) low (inr x) = let z = any-height P h r low x in omega arith
@@ -240,7 +241,8 @@ deep-top a k b j le (inr (inr x)) = absurd x
 
 -- "the paper's minimality claims": two trees that take the same pairs on every document fold onto each other, top onto top
 pub mutual-folds : (a : Tag) (k : Forest Tag) (b : Tag) (j : Forest Tag) → count src (tree a k bare) ≡ 1 → count dst (tree a k bare) ≡ 1
-    → count src (tree b j bare) ≡ 1 → count dst (tree b j bare) ≡ 1 → Agree (Takes (tree a k bare)) (Takes (tree b j bare)) → Onto a k b j × Onto b j a k
+    → count src (tree b j bare) ≡ 1 → count dst (tree b j bare) ≡ 1 → Agree (Takes (tree a k bare)) (Takes (tree b j bare))
+    → Onto a k b j × Onto b j a k
 mutual-folds a k b j sa da sb db eq =
     let x : Deep (Onto a k) (tree b j bare) = contained-folds b j a k sb db (λ D good m n. (eq D good m n) .1) in
     let y : Deep (Onto b j) (tree a k bare) = contained-folds a k b j sa da (λ D good m n. (eq D good m n) .0) in
@@ -260,7 +262,8 @@ agree-equal f g x y eq =
 pub inhabited : (Q : Query) → TreeQuery Q → (D : Doc) × Document D × ((m : ℕ) × (n : ℕ) × Selects Q D m n)
 inhabited Q q = go (treeOf Q) (query-tree Q q) (tree-means Q q)
   where
-    go : (f : Forest Tag) → QueryTree f → ((D : Doc) (m n : ℕ) → Selects Q D m n ↔ Takes f D m n) → (D : Doc) × Document D × ((m : ℕ) × (n : ℕ) × Selects Q D m n)
+    go : (f : Forest Tag) → QueryTree f → ((D : Doc) (m n : ℕ) → Selects Q D m n ↔ Takes f D m n)
+        → (D : Doc) × Document D × ((m : ℕ) × (n : ℕ) × Selects Q D m n)
     go f t means =
         let F : Forest Tag = tree (t .root) (t .below) bare in (
           canon 0 F,

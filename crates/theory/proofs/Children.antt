@@ -83,7 +83,8 @@ only-kid u (r ∷ T) b j only x = go (only-kid u T (suc b) j) (linkIs u r) only 
     none-left (i ∷ js) no-i = absurd (no-i i (inl refl))
 
     go : (((i : ℕ) → Among i (kidsFrom u T (suc b)) → i ≡ j) → Among j (kidsFrom u T (suc b)) → kidsFrom u T (suc b) ≡ j ∷ []) → (t : Bool)
-        → ((i : ℕ) → Among i (choose t b (kidsFrom u T (suc b))) → i ≡ j) → Among j (choose t b (kidsFrom u T (suc b))) → choose t b (kidsFrom u T (suc b)) ≡ j ∷ []
+        → ((i : ℕ) → Among i (choose t b (kidsFrom u T (suc b))) → i ≡ j) → Among j (choose t b (kidsFrom u T (suc b)))
+        → choose t b (kidsFrom u T (suc b)) ≡ j ∷ []
     go ih false o y = ih o y
     go ih true o y =
         let ej : b ≡ j = o b (inl refl) in

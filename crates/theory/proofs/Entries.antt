@@ -46,7 +46,8 @@ look-split (y ∷ xs) ys (suc i) x e = go (look-split xs ys i x e)
 abbrev pub Later : Tag → Forest Tag → Forest Tag → Option ℕ → ℕ → ℕ → Entry → Type 0
 Later a k r p b i x = (look (entries k (some b) (suc b)) i ≡ some x) ⊎ ((j : ℕ) × (i ≡ size k + j) × (look (entries r p (suc b + size k)) j ≡ some x))
 
-pub entry-later : (a : Tag) (k r : Forest Tag) (p : Option ℕ) (b i : ℕ) (x : Entry) → look (entries (tree a k r) p b) (suc i) ≡ some x → Later a k r p b i x
+pub entry-later : (a : Tag) (k r : Forest Tag) (p : Option ℕ) (b i : ℕ) (x : Entry) → look (entries (tree a k r) p b) (suc i) ≡ some x
+    → Later a k r p b i x
 entry-later a k r p b i x e = rw (length-entries k (some b) (suc b)) at (look-split (entries k (some b) (suc b)) (entries r p (suc b + size k)) i x e)
 
 -- ------------------------------------------------------------------ the part of a list that a forest's nodes make up
@@ -134,7 +135,8 @@ abbrev pub Deep : (Tag → Forest Tag → Type 0) → Forest Tag → Type 0
 Deep P bare = ⊥
 Deep P (tree a k r) = P a k ⊎ (Deep P k ⊎ Deep P r)
 
-pub entry-deep : (P : Tag → Forest Tag → Type 0) (f : Forest Tag) (p : Option ℕ) (b i : ℕ) (x : Entry) → look (entries f p b) i ≡ some x → P (x .tag) (x .kids) → Deep P f
+pub entry-deep : (P : Tag → Forest Tag → Type 0) (f : Forest Tag) (p : Option ℕ) (b i : ℕ) (x : Entry) → look (entries f p b) i ≡ some x
+    → P (x .tag) (x .kids) → Deep P f
 entry-deep P bare p b i x e y = never cc
 entry-deep P (tree a k r) p b zero x e y =
     let q : x ≡ record { up = p; tag = a; kids = k } = cc in inl (subst (λ z. P (z .tag) (z .kids)) q y)
@@ -174,7 +176,8 @@ first-marked : (q : Tag → Bool) (xs : List Entry) → 1 ≤ tally q xs → Mar
 first-marked q [] le = absurd (omega arith)
 first-marked q (x ∷ xs) le = go (q (x .tag)) refl (first-marked q xs) le
   where
-    go : (t : Bool) → q (x .tag) ≡ t → (1 ≤ tally q xs → Marked q xs (first q xs)) → 1 ≤ bit t + tally q xs → Marked q (x ∷ xs) (cond t 0 (suc (first q xs)))
+    go : (t : Bool) → q (x .tag) ≡ t → (1 ≤ tally q xs → Marked q xs (first q xs)) → 1 ≤ bit t + tally q xs
+        → Marked q (x ∷ xs) (cond t 0 (suc (first q xs)))
     go true e ih le′ = (x, refl, e)
     go false e ih le′ = ih (omega arith)
 
@@ -189,7 +192,8 @@ marked-first q [] le i (x, e, t) = never cc
 marked-first q (y ∷ xs) le zero (x, e, t) = let z : y ≡ x = cc in rw (z, t)
 marked-first q (y ∷ xs) le (suc i) m = go (q (y .tag)) (marked-first q xs) (marked-tally q xs i m) le
   where
-    go : (t : Bool) → (tally q xs ≤ 1 → (j : ℕ) → Marked q xs j → j ≡ first q xs) → 1 ≤ tally q xs → bit t + tally q xs ≤ 1 → suc i ≡ cond t 0 (suc (first q xs))
+    go : (t : Bool) → (tally q xs ≤ 1 → (j : ℕ) → Marked q xs j → j ≡ first q xs) → 1 ≤ tally q xs → bit t + tally q xs ≤ 1
+        → suc i ≡ cond t 0 (suc (first q xs))
     go true ih one le′ = absurd (omega arith)
     go false ih one le′ = ap suc (ih (omega arith) i m)
 

@@ -108,7 +108,8 @@ on-pair-mono D m n a b w p (l, s, d) = (on-label-mono D a b w p l, mark-on (a .s
 
 module _ (D : Doc) (On : Tag → ℕ → Type 0) (mono : (a b : Tag) (w : ℕ) → TagLe a b → On b w → On a w) where
   any-lays : {P : Tag → Forest Tag → Type 0} {Q : Type 0} (v : Option ℕ)
-      → ((b : Tag) (j : Forest Tag) (w : ℕ) → P b j → Under D v w → On b w → Lays D On j (some w) → Q) → (g : Forest Tag) → Any P g → Lays D On g v → Q
+      → ((b : Tag) (j : Forest Tag) (w : ℕ) → P b j → Under D v w → On b w → Lays D On j (some w) → Q) → (g : Forest Tag) → Any P g → Lays D On g v
+      → Q
   any-lays v h bare x l = absurd x
   any-lays v h (tree b j r) (inl p) ((w, u, o, l), l′) = h b j w p u o l
   any-lays v h (tree b j r) (inr x) (l, l′) = any-lays v h r x l′

@@ -180,7 +180,8 @@ glue-right (suc n) T x y cl (u, l, ex) (v, k, ey) le = step (glue-right n) (ℕ-
     step rec (no ne) = rw (ex, ey) (labels rec ne (meet l k) refl)
 
 -- ------------------------------------------------------------------ what follows for the glued table
-pub laid : (D : Doc) (T : Table) (h : ℕ → ℕ) → Laying D T h → (i : ℕ) {u : Option ℕ} {l : Lab} → at T i ≡ some (node u l) → RowKept D h i (some (node u l))
+pub laid : (D : Doc) (T : Table) (h : ℕ → ℕ) → Laying D T h → (i : ℕ) {u : Option ℕ} {l : Lab} → at T i ≡ some (node u l)
+    → RowKept D h i (some (node u l))
 laid D T h lay i e = subst (RowKept D h i) e (lay i)
 
 -- parents of one node are one node
@@ -214,7 +215,8 @@ module _ {T : Table} {x y : ℕ} {g : Glued} (r : Quotient T x y g) where
   pub laying-up : (D : Doc) (h : ℕ → ℕ) → Laying D (g .rows) h → Laying D T (λ j. h (g .to j))
   laying-up D h lay j = go (at T j) refl
     where
-      edge : (u : Option ℕ) {l : Lab} (a : Kept (λ p. p) (g .to) (g .rows) (g .to j) u l) → EdgeKept D h (g .to j) (a .up) → EdgeKept D (λ z. h (g .to z)) j u
+      edge : (u : Option ℕ) {l : Lab} (a : Kept (λ p. p) (g .to) (g .rows) (g .to j) u l) → EdgeKept D h (g .to j) (a .up)
+          → EdgeKept D (λ z. h (g .to z)) j u
       edge none a e = tt
       edge (some p) a e =
           let (q, eq, et) = a .edge p refl in subst (EdgeKept D h (g .to j)) (eq ∙ ap some et) e

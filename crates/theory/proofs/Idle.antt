@@ -36,12 +36,14 @@ owed : (form : Option Query → List ℕ) (word room : List ℕ) (e : Expr) → 
 unfolding written
 owed form word room e r le = rw (r, le-ltb (length room) (length (form (plain e))) le)
 
-pub refuses-words : (form : Option Query → List ℕ) (word room : List ℕ) (e : Expr) → readWord word ≡ answered e → length (form (plain e)) ≤ length room
+pub refuses-words : (form : Option Query → List ℕ) (word room : List ℕ) (e : Expr) → readWord word ≡ answered e
+    → length (form (plain e)) ≤ length room
     → (number place : ℕ) (after : List ℕ) → ¬ Writes form word room (refused number place) after
 refuses-words form word room e r le number place after w = let z = w .returned ∙ ap lengthOf (owed form word room e r le) in never cc
 
 -- "one fixed answer, such as empty": the byte 00, for P1
-begins : (form : Option Query → List ℕ) {bytes room : List ℕ} {r : Outcome ℕ} → form (plain self) ≡ 0x01 ∷ bytes → readWord (0x01 ∷ []) ≡ answered self
+begins : (form : Option Query → List ℕ) {bytes room : List ℕ} {r : Outcome ℕ} → form (plain self) ≡ 0x01 ∷ bytes
+    → readWord (0x01 ∷ []) ≡ answered self
     → length (form (plain self)) ≤ length room → ¬ Writes form (0x01 ∷ []) room r (0x00 ∷ drop 1 room)
 begins form {room = room} e p le w = let l = rw e at (w .left ∙ ap (roomAfter room) (owed form (0x01 ∷ []) room self p le)) in never cc
 

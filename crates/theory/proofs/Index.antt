@@ -15,11 +15,13 @@ use Rattle.meaning.specs.Tree.{Forest, bare, tree, Tag, Takes, treeOf, plainTre
 use Rattle.meaning.specs.Folding.{Reduced, Sheds, minimal}
 use Rattle.meaning.specs.Image.{image, ordered, plainImage, minimalImage, minimalTree}
 use Rattle.meaning.specs.Normal.{eitherIn, normal, normalOf, normalForm}
+use Rattle.meaning.specs.Number.{num, got, groups}
 use Rattle.meaning.specs.Word.{Outcome, refused, answered, readWord}
 use Rattle.meaning.specs.Matching.{LaysAt}
 use Rattle.meaning.specs.Promise.{written, Writes, Question, Selected}
 use Rattle.meaning.specs.Program.{programText}
 use Rattle.theory.proofs.Cases as Cases
+use Rattle.theory.proofs.Numbers as Numbers
 use Rattle.theory.proofs.Document as Documents
 use Rattle.theory.proofs.Same as Same
 use Rattle.theory.proofs.Least as Least
@@ -76,17 +78,20 @@ pub smallest-tree : (e : Expr) (Q : Query) → TreeQuery Q → Agree (pairs e) (
 smallest-tree = Least.smallest-tree
 
 -- two tree queries of one meaning have minimal trees with the same image; with brothers in image order they are one tree
-pub one-minimal-image : (P Q : Query) → TreeQuery P → TreeQuery Q → Agree (Selects P) (Selects Q) → image (minimal (treeOf P)) ≡ image (minimal (treeOf Q))
+pub one-minimal-image : (P Q : Query) → TreeQuery P → TreeQuery Q → Agree (Selects P) (Selects Q)
+    → image (minimal (treeOf P)) ≡ image (minimal (treeOf Q))
 one-minimal-image = Least.one-image
 
-pub one-minimal-tree : (P Q : Query) → TreeQuery P → TreeQuery Q → Agree (Selects P) (Selects Q) → ordered (minimal (treeOf P)) ≡ ordered (minimal (treeOf Q))
+pub one-minimal-tree : (P Q : Query) → TreeQuery P → TreeQuery Q → Agree (Selects P) (Selects Q)
+    → ordered (minimal (treeOf P)) ≡ ordered (minimal (treeOf Q))
 one-minimal-tree = Least.one-query
 
 -- expressions of one meaning have one minimal tree
 pub one-tree : (e f : Expr) → Agree (pairs e) (pairs f) → minimalTree (plain e) ≡ minimalTree (plain f)
 one-tree = Least.one-tree
 
--- paper, theorem 7.1 (2): "P_red is isomorphic to any minimal T expression equivalent to P". A tree query of the same meaning with as few nodes as the
+-- paper, theorem 7.1 (2): "P_red is isomorphic to any minimal T expression equivalent to P". A tree query of the same meaning with as few
+-- nodes as the
 -- minimal tree is that tree, up to the order of brothers (whichever way it was reduced: `any-order`) ..
 pub as-few-nodes : (e : Expr) (Q : Query) → TreeQuery Q → Agree (pairs e) (Selects Q) → nodes Q ≤ size (minimalTree (plain e))
     → ordered (treeOf Q) ≡ minimalTree (plain e)
@@ -147,17 +152,23 @@ pub minimal-steps : (e : Expr) → ((f : Expr) → Agree (pairs e) (pairs f) →
 minimal-steps = Least.minimal-steps
 
 -- ------------------------------------------------------------------ demand 2: read in again
+-- "Only the shortest writing of a number is read."
+pub only-shortest : (bytes : List ℕ) (v k : ℕ) → Bytes bytes → groups true bytes ≡ got v k → bytes ≡ num v ++ drop k bytes
+only-shortest = Numbers.read-shortest
+
 -- "The normal form has at most 2,048 bytes .. and it is always accepted as a word."
 pub form-accepted : (word : List ℕ) (e : Expr) → readWord word ≡ answered e
     → (length (normalForm (plain e)) ≤ 2048) × (readWord (normalForm (plain e)) ≡ answered (normalOf (plain e)))
 form-accepted = Again.form-accepted
 
 -- "the normal form read in again gives the same minimal tree", and the same normal form
-pub same-again : (e : Expr) → (minimalTree (plain (normalOf (plain e))) ≡ minimalTree (plain e)) × (normalForm (plain (normalOf (plain e))) ≡ normalForm (plain e))
+pub same-again : (e : Expr)
+    → (minimalTree (plain (normalOf (plain e))) ≡ minimalTree (plain e)) × (normalForm (plain (normalOf (plain e))) ≡ normalForm (plain e))
 same-again = Again.same-again
 
 -- images have "at most 1,538 bytes", and the plain tree of an accepted word has at most 256 nodes
-pub images-short : (word : List ℕ) (e : Expr) → readWord word ≡ answered e → (length (plainImage (plain e)) ≤ 1538) × (length (minimalImage (plain e)) ≤ 1538)
+pub images-short : (word : List ℕ) (e : Expr) → readWord word ≡ answered e
+    → (length (plainImage (plain e)) ≤ 1538) × (length (minimalImage (plain e)) ≤ 1538)
 images-short = Again.images-short
 
 pub plain-nodes : (word : List ℕ) (e : Expr) → readWord word ≡ answered e → size (plainTree (plain e)) ≤ 256
@@ -170,7 +181,8 @@ pub bit-mapping : (D : Doc) (a : Tag) (k : Forest Tag) (v : ℕ)
 bit-mapping = Bits.bit-mapping
 
 -- a pair is selected exactly when the nodes on the ways from s and d up to the top are laid consistently and each of their bits is set
-pub pair-by-bits : (D : Doc) (m n : ℕ) (a : Tag) (k : Forest Tag) → eitherIn a k ≡ true → Takes (tree a k bare) D m n ↔ Pair.Ways D m n (tree a k bare) none
+pub pair-by-bits : (D : Doc) (m n : ℕ) (a : Tag) (k : Forest Tag) → eitherIn a k ≡ true
+    → Takes (tree a k bare) D m n ↔ Pair.Ways D m n (tree a k bare) none
 pair-by-bits = Pair.takes-ways
 
 -- ------------------------------------------------------------------ "That no second answer fits"
@@ -184,7 +196,8 @@ one-reply = Promise.one-reply
 
 -- ------------------------------------------------------------------ "These idle versions have to be refused by the promise"
 -- "one that refuses all words": no accepted word, as P1 to P12 are, is refused in a room that is long enough
-pub refuses-words : (form : Option Query → List ℕ) (word room : List ℕ) (e : Expr) → readWord word ≡ answered e → length (form (plain e)) ≤ length room
+pub refuses-words : (form : Option Query → List ℕ) (word room : List ℕ) (e : Expr) → readWord word ≡ answered e
+    → length (form (plain e)) ≤ length room
     → (number place : ℕ) (after : List ℕ) → ¬ Writes form word room (refused number place) after
 refuses-words = Idle.refuses-words
 

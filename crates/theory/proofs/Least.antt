@@ -47,7 +47,8 @@ smallest-query P Q p q ag =
     let z = size-tree Q q in omega arith
 
 -- one meaning, one minimal tree
-pub one-query : (P Q : Query) → TreeQuery P → TreeQuery Q → Agree (Selects P) (Selects Q) → ordered (minimal (treeOf P)) ≡ ordered (minimal (treeOf Q))
+pub one-query : (P Q : Query) → TreeQuery P → TreeQuery Q → Agree (Selects P) (Selects Q)
+    → ordered (minimal (treeOf P)) ≡ ordered (minimal (treeOf Q))
 one-query P Q p q ag =
     sym (same-ordered (minimal (treeOf Q)) (minimal (treeOf P))
     (minimal-same (treeOf P) (minimal (treeOf Q)) (minimal-reduced (treeOf Q))
@@ -101,7 +102,8 @@ one-tree e f ag = go (plain e) (plain f) refl refl (plain-means e) (plain-means 
     go (some P) (some Q) eo er w x = one-query P Q (w .0) (x .0) (agree-queries e f ag P Q w x)
 
 -- the same for one expression and any tree query of its meaning
-agree-query : (e : Expr) (P Q : Query) → ((D : Doc) (m n : ℕ) → pairs e D m n ↔ Selects P D m n) → Agree (pairs e) (Selects Q) → Agree (Selects P) (Selects Q)
+agree-query : (e : Expr) (P Q : Query) → ((D : Doc) (m n : ℕ) → pairs e D m n ↔ Selects P D m n) → Agree (pairs e) (Selects Q)
+    → Agree (Selects P) (Selects Q)
 agree-query e P Q w ag D g m n = (λ s. (ag D g m n) .0 ((w D m n) .1 s), λ s. (w D m n) .0 ((ag D g m n) .1 s))
 
 pub smallest-tree : (e : Expr) (Q : Query) → TreeQuery Q → Agree (pairs e) (Selects Q) → size (minimalTree (plain e)) ≤ nodes Q

@@ -14,9 +14,8 @@ use Rattle.meaning.specs.Number.{num, largestLabel}
 use Rattle.meaning.specs.Image.{LeL, decL, insert, labCode, markCode, flat, recordOf, records, image}
 use Rattle.meaning.specs.Normal.{joined, all, labelled, branch, onward, chains, srcIn, dstIn, bothIn, eitherIn, someTree, off, ups, downs, aboveFactor, longer, around, factors, normal, wordOf}
 use Rattle.theory.proofs.Numbers.{num-short}
-use Rattle.theory.proofs.Count.{size-count}
 use Rattle.theory.proofs.Labels.{LabIn, LabsIn}
-use Rattle.theory.proofs.Ways.{on, aside, off-aside, count-ways, aside-either, on-dst}
+use Rattle.theory.proofs.Ways.{on, aside, off-aside, size-ways, aside-either, on-dst}
 
 -- "Labels are 0 to 65,535"
 abbrev pub InRange : ℕ → Type 0
@@ -111,9 +110,6 @@ branches-cost (tree b j r) (h, hj, hr) = (both (branches-cost j hj) (branches-co
     go : (r : Forest Tag) → Cheap j → Cheap r → cost (onward (chains (tree b j r))) ≤ 7 * size (tree b j r)
     go bare (bj, oj) c = omega (arith, labelled-cost (b .lab) (onward (chains j)) h)
     go (tree d i s) (bj, oj) (br, or) = omega (arith, branch-cost (b .lab) (onward (chains j)) h)
-
-size-ways : (p : Tag → Forest Tag → Bool) (k : Forest Tag) → size k ≡ size (on p k) + size (aside p k)
-size-ways p k = omega (arith, count-ways (λ _. true) p k, size-count k, size-count (on p k), size-count (aside p k))
 
 aside-labs : (p : Tag → Forest Tag → Bool) (k : Forest Tag) → LabsIn InRange k → LabsIn InRange (aside p k)
 aside-labs p bare h = tt

@@ -69,7 +69,8 @@ module _ (q : Tag → Bool) (mono : (a b : Tag) → TagLe a b → MarkLe (q a) (
   mark-bit true false le = absurd le
   mark-bit true true le = omega arith
 
-  any-count : (P : Tag → Forest Tag → Type 0) (g : Forest Tag) → ((b : Tag) (j : Forest Tag) → P b j → 1 ≤ bit (q b) + count q j) → Any P g → 1 ≤ count q g
+  any-count : (P : Tag → Forest Tag → Type 0) (g : Forest Tag) → ((b : Tag) (j : Forest Tag) → P b j → 1 ≤ bit (q b) + count q j) → Any P g
+      → 1 ≤ count q g
   any-count P bare each x = absurd x
   any-count P (tree b j r) each (inl p) = let z = each b j p in omega arith
   any-count P (tree b j r) each (inr x) = let z = any-count P r each x in omega arith
@@ -79,7 +80,8 @@ module _ (q : Tag → Bool) (mono : (a b : Tag) → TagLe a b → MarkLe (q a) (
   folds-count bare g x one = absurd (omega arith)
   folds-count (tree a k r) g (x, y) one = go (folds-count k) (folds-count r g y) (decLt 0 (count q r)) (decLt 0 (count q k))
     where
-      go : ((j : Forest Tag) → Folds k j → 1 ≤ count q k → 1 ≤ count q j) → (1 ≤ count q r → 1 ≤ count q g) → Dec (0 < count q r) → Dec (0 < count q k) → 1 ≤ count q g
+      go : ((j : Forest Tag) → Folds k j → 1 ≤ count q k → 1 ≤ count q j) → (1 ≤ count q r → 1 ≤ count q g) → Dec (0 < count q r)
+          → Dec (0 < count q k) → 1 ≤ count q g
       go ik ir (yes lt) c = ir lt
       go ik ir (no nl) (yes lt) = any-count (Onto a k) g (λ b j o. let z = ik j (o .1) lt in omega arith) x
       go ik ir (no nl) (no nl′) = any-count (Onto a k) g (λ b j o. let z = mark-bit (q a) (q b) (mono a b (o .0)) in omega arith) x
@@ -130,7 +132,8 @@ ordered-query-tree f t = record {
 
 -- ------------------------------------------------------------------ labels
 module _ (P : ℕ → Type 0) where
-  plant-labels : (tag : ℕ → Tag) (f : ℕ → Forest Tag) (js : List ℕ) → ((j : ℕ) → LabIn P ((tag j) .lab)) → ((j : ℕ) → LabsIn P (f j)) → LabsIn P (plant tag f js)
+  plant-labels : (tag : ℕ → Tag) (f : ℕ → Forest Tag) (js : List ℕ) → ((j : ℕ) → LabIn P ((tag j) .lab)) → ((j : ℕ) → LabsIn P (f j))
+      → LabsIn P (plant tag f js)
   plant-labels tag f [] t g = tt
   plant-labels tag f (j ∷ js) t g = (t j, g j, plant-labels tag f js t g)
 

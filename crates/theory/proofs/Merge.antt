@@ -226,7 +226,8 @@ module _ {T : Table} {x y : ℕ} {u v : Option ℕ} {l k : Lab} (w : Merge T x y
         go (old u₁ e′ _) = record { place = back y i; up = u₁; row = e′; toPlace = moved-back x y i }
 
     -- every row is kept, where t makes the two parents one
-    pub kept-merged : (t : ℕ → ℕ) → ((p q : ℕ) → u ≡ some p → v ≡ some q → t (f p) ≡ t (f q)) → (j : ℕ) (u₀ : Option ℕ) (l₀ : Lab) → at T j ≡ some (node u₀ l₀)
+    pub kept-merged : (t : ℕ → ℕ) → ((p q : ℕ) → u ≡ some p → v ≡ some q → t (f p) ≡ t (f q)) → (j : ℕ) (u₀ : Option ℕ) (l₀ : Lab)
+        → at T j ≡ some (node u₀ l₀)
         → Kept t (λ p. t (f p)) M (f j) u₀ l₀
     kept-merged t agree j u₀ l₀ e = go (ℕ-discrete j x) (ℕ-discrete j y)
       where
@@ -239,7 +240,8 @@ module _ {T : Table} {x y : ℕ} {u v : Option ℕ} {l k : Lab} (w : Merge T x y
         edgeY none (some q) eu ev p ep = (f q, refl, ap (λ z. t (f z)) (let z : q ≡ p = cc in z))
         edgeY (some q) v′ eu ev p ep = (f q, refl, agree q p eu (ev ∙ ep))
 
-        glue-row : f j ≡ f x → ((a : ℕ) → Fits m a → Fits l₀ a) → ((p : ℕ) → u₀ ≡ some p → (q : ℕ) × (mapped f (orElse u v) ≡ some q) × (t q ≡ t (f p)))
+        glue-row : f j ≡ f x → ((a : ℕ) → Fits m a → Fits l₀ a)
+            → ((p : ℕ) → u₀ ≡ some p → (q : ℕ) × (mapped f (orElse u v) ≡ some q) × (t q ≡ t (f p)))
             → Kept t (λ p. t (f p)) M (f j) u₀ l₀
         glue-row ej fits edge = record { up = mapped f (orElse u v); bears = m; row = ap (at M) ej ∙ row-x; fits = fits; edge = edge }
 

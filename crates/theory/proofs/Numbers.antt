@@ -10,25 +10,17 @@ use native.Mathlib.Omega.{arith}
 use lib.ListN.{length, drop}
 use lib.Dec.{ltb, eqb}
 use borrow.Author.Tests.{lt-ltb, le-ltb, ne-eqb, ltb-true, ltb-false, eqb-false}
-use Rattle.meaning.specs.Basics.{pick}
 use Rattle.meaning.specs.Number.{numF, num, Got, got, broken, more, lone, groups}
-use Rattle.theory.proofs.Look.{never}
+use Rattle.theory.proofs.Look.{never, pick-yes, pick-no}
+use Rattle.theory.proofs.Once.{Bytes}
 
 -- ------------------------------------------------------------------ writing
 -- a number of one group, and one of several
-numF-one : (f n : ℕ) → n < 128 → numF (suc f) n ≡ n ∷ []
-numF-one f n lt = go (decLt n 128)
-  where
-    go : (d : Dec (n < 128)) → pick d (n ∷ []) ((128 + n % 128) ∷ numF f (n / 128)) ≡ n ∷ []
-    go (yes p) = refl
-    go (no q) = absurd (q lt)
+pub numF-one : (f n : ℕ) → n < 128 → numF (suc f) n ≡ n ∷ []
+numF-one f n lt = pick-yes (decLt n 128) _ _ lt
 
-numF-more : (f n : ℕ) → 128 ≤ n → numF (suc f) n ≡ (128 + n % 128) ∷ numF f (n / 128)
-numF-more f n le = go (decLt n 128)
-  where
-    go : (d : Dec (n < 128)) → pick d (n ∷ []) ((128 + n % 128) ∷ numF f (n / 128)) ≡ (128 + n % 128) ∷ numF f (n / 128)
-    go (yes p) = absurd (omega arith)
-    go (no q) = refl
+pub numF-more : (f n : ℕ) → 128 ≤ n → numF (suc f) n ≡ (128 + n % 128) ∷ numF f (n / 128)
+numF-more f n le = pick-no (decLt n 128) _ _ (λ lt. omega arith)
 
 pub num-one : (n : ℕ) → n < 128 → num n ≡ n ∷ []
 num-one n lt = numF-one n n lt
@@ -53,9 +45,13 @@ num-short g n lt = numF-short (suc n) n g lt
 
 -- ------------------------------------------------------------------ what is written is read
 -- a last group behind others is not 0
-abbrev Ends : Bool → ℕ → Type 0
+abbrev pub Ends : Bool → ℕ → Type 0
 Ends true n = Unit {0}
 Ends false n = 0 < n
+
+ends-more : (first : Bool) (b n : ℕ) → 0 < n → Ends first (b - 128 + 128 * n)
+ends-more true b n p = tt
+ends-more false b n p = omega arith
 
 groups-one : (first : Bool) (n : ℕ) (rest : List ℕ) → n < 128 → Ends first n → groups first (n ∷ rest) ≡ got n 1
 unfolding groups
@@ -90,10 +86,6 @@ num-back m n x y e = (same, append-cancel-left (num m) x y (e ∙ ap (λ k. num 
     same = let a = read-num m x in let b = read-num n y in cc
 
 -- ------------------------------------------------------------------ nothing else is read
-abbrev pub Bytes : List ℕ → Type 0
-Bytes [] = Unit {0}
-Bytes (b ∷ bs) = (b < 256) × Bytes bs
-
 lone-back : (first : Bool) (b v k : ℕ) → lone first b ≡ got v k → Ends first b × (b ≡ v) × (1 ≡ k)
 lone-back true b v k e = (tt, cc, cc)
 lone-back false b v k e = go (eqb b 0) refl e
@@ -106,16 +98,18 @@ more-back : (b : ℕ) (g : Got) (v k : ℕ) → more b g ≡ got v k → (w : �
 more-back b (got w j) v k e = (w, j, refl, cc, cc)
 more-back b broken v k e = never cc
 
--- a number takes a byte or more, and no more than there are
-pub groups-length : (first : Bool) (bs : List ℕ) (v k : ℕ) → groups first bs ≡ got v k → (0 < k) × (k ≤ length bs)
+-- a number takes a byte or more, and no more than there are; groups behind others stand for more than 0
+pub groups-got : (first : Bool) (bs : List ℕ) (v k : ℕ) → groups first bs ≡ got v k → (0 < k) × (k ≤ length bs) × Ends first v
 unfolding groups
-groups-length first [] v k e = never cc
-groups-length first (b ∷ bs) v k e = go (ltb b 128) e (groups-length false bs)
+groups-got first [] v k e = never cc
+groups-got first (b ∷ bs) v k e = go (ltb b 128) e (groups-got false bs)
   where
     go : (t : Bool) → cond t (lone first b) (more b (groups false bs)) ≡ got v k
-        → ((w j : ℕ) → groups false bs ≡ got w j → (0 < j) × (j ≤ length bs)) → (0 < k) × (k ≤ suc (length bs))
-    go true e′ ih = let (h, ev, ek) = lone-back first b v k e′ in (omega arith, omega arith)
-    go false e′ ih = let (w, j, eg, ev, ek) = more-back b (groups false bs) v k e′ in let (p, q) = ih w j eg in (omega arith, omega arith)
+        → ((w j : ℕ) → groups false bs ≡ got w j → (0 < j) × (j ≤ length bs) × (0 < w)) → (0 < k) × (k ≤ suc (length bs)) × Ends first v
+    go true e′ ih = let (h, ev, ek) = lone-back first b v k e′ in (omega arith, omega arith, rw (← ev) h)
+    go false e′ ih =
+        let (w, j, eg, ev, ek) = more-back b (groups false bs) v k e′ in
+        let (p, q, l) = ih w j eg in (omega arith, omega arith, rw (← ev) (ends-more first b w l))
 
 -- the bytes begin with v in its shortest writing, and k bytes were read
 record Written (first : Bool) (bs : List ℕ) (v k : ℕ) : Type 0 where
@@ -131,14 +125,10 @@ one-written first b bs lt h = record { ends = h; bytes = write }
 
 more-written : (first : Bool) (b : ℕ) (bs : List ℕ) (w j : ℕ) → b < 256 → 128 ≤ b → Written false bs w j
     → Written first (b ∷ bs) (b - 128 + 128 * w) (suc j)
-more-written first b bs w j lt le h = record { ends = end first; bytes = write }
+more-written first b bs w j lt le h = record { ends = ends-more first b w pos; bytes = write }
   where
     pos : 0 < w
     pos = h .ends
-
-    end : (first : Bool) → Ends first (b - 128 + 128 * w)
-    end true = tt
-    end false = omega (arith, pos)
 
     write : (f : ℕ) → b - 128 + 128 * w < f → b ∷ bs ≡ numF f (b - 128 + 128 * w) ++ drop j bs
     write zero l = absurd (omega arith)
@@ -150,7 +140,7 @@ more-written first b bs w j lt le h = record { ends = end first; bytes = write }
 groups-written : (first : Bool) (bs : List ℕ) (v k : ℕ) → Bytes bs → groups first bs ≡ got v k → Written first bs v k
 unfolding groups
 groups-written first [] v k h e = never cc
-groups-written first (b ∷ bs) v k (hb, hs) e = go (ltb b 128) refl e (λ w j. groups-written false bs w j hs)
+groups-written first (b ∷ bs) v k h e = go (ltb b 128) refl e (λ w j. groups-written false bs w j (λ i l. h (suc i) (omega arith)))
   where
     go : (t : Bool) → ltb b 128 ≡ t → cond t (lone first b) (more b (groups false bs)) ≡ got v k
         → ((w j : ℕ) → groups false bs ≡ got w j → Written false bs w j) → Written first (b ∷ bs) v k
@@ -158,7 +148,7 @@ groups-written first (b ∷ bs) v k (hb, hs) e = go (ltb b 128) refl e (λ w j. 
     go false q e′ ih = on (more-back b (groups false bs) v k e′)
       where
         on : (w : ℕ) × (j : ℕ) × (groups false bs ≡ got w j) × (b - 128 + 128 * w ≡ v) × (j + 1 ≡ k) → Written first (b ∷ bs) v k
-        on (w, j, eg, ev, ek) = rw (← ev, ← ek, add-one) (more-written first b bs w j hb (ltb-false b 128 q) (ih w j eg))
+        on (w, j, eg, ev, ek) = rw (← ev, ← ek, add-one) (more-written first b bs w j (h 0 (omega arith)) (ltb-false b 128 q) (ih w j eg))
 
 -- "Only the shortest writing of a number is read."
 pub read-shortest : (bs : List ℕ) (v k : ℕ) → Bytes bs → groups true bs ≡ got v k → bs ≡ num v ++ drop k bs

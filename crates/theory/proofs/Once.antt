@@ -70,7 +70,8 @@ byte-same w w′ i p q h = bits-same 8 (getD w i 0) (getD w′ i 0) p q (λ k l.
         rw (place, bitk) at (h (8 * (i % 128) + k) (omega arith))
 
 -- bytes of which each is told, by itself or by the bits of its row
-pub bytes-same : (w w′ : List ℕ) → Bytes w → Bytes w′ → length w ≡ length w′ → ((i : ℕ) → (getD w i 0 ≡ getD w′ i 0) ⊎ RowSame w w′ (i / 128)) → w ≡ w′
+pub bytes-same : (w w′ : List ℕ) → Bytes w → Bytes w′ → length w ≡ length w′ → ((i : ℕ) → (getD w i 0 ≡ getD w′ i 0) ⊎ RowSame w w′ (i / 128))
+    → w ≡ w′
 bytes-same w w′ b b′ e told = ext-getD 0 w w′ e (λ i l. entry i l (told i))
   where
     entry : (i : ℕ) → i < length w → (getD w i 0 ≡ getD w′ i 0) ⊎ RowSame w w′ (i / 128) → getD w i 0 ≡ getD w′ i 0

@@ -6,7 +6,6 @@ use mathlib.Core.Logic.{_↔_}
 use mathlib.Core.Bool.{Bool, true, false, _||_}
 use mathlib.Core.Option.{Option, none, some}
 use Prim.Native.Nat.{ℕ}
-use native.Mathlib.Omega.{arith}
 use Rattle.meaning.specs.Document.{Doc, In}
 use Rattle.meaning.specs.Tree.{Forest, bare, tree, Tag, Under, Lays, MarkOn, OnPair, Takes}
 use Rattle.meaning.specs.Normal.{holds, srcIn, dstIn, eitherIn}
@@ -76,7 +75,8 @@ module _ (D : Doc) (m n : ℕ) where
           only true = (w, un, on, k .0, k .1)
           only false = tt
 
-      up : (e : Bool) → eitherIn b j ≡ e → Kids → Rest → Lays D (OnLabel D) (tree b j r) v → OnlyIf e Here × Ways D m n r v → Lays D (OnPair D m n) (tree b j r) v
+      up : (e : Bool) → eitherIn b j ≡ e → Kids → Rest → Lays D (OnLabel D) (tree b j r) v → OnlyIf e Here × Ways D m n r v
+          → Lays D (OnPair D m n) (tree b j r) v
       up true q kids rest (l, lr) ((w, un, on, lj, wj), wr) = ((w, un, on, kids w .1 (lj, wj)), rest .1 (lr, wr))
       up false q kids rest ((w, un, on, lj), lr) (_, wr) =
           let o = off-way b j q in
@@ -86,6 +86,7 @@ module _ (D : Doc) (m n : ℕ) where
   pub takes-ways : (a : Tag) (k : Forest Tag) → eitherIn a k ≡ true → Takes (tree a k bare) D m n ↔ Ways D m n (tree a k bare) none
   takes-ways a k e = (λ t. (lays-ways (tree a k bare) none .0 t) .1, λ w. lays-ways (tree a k bare) none .1 (bit (eitherIn a k) e (w .0), w))
     where
-      bit : (e : Bool) → e ≡ true → OnlyIf e ((w : ℕ) × In D w × OnPair D m n a w × Lays D (OnLabel D) k (some w) × Ways D m n k (some w)) → Lays D (OnLabel D) (tree a k bare) none
+      bit : (e : Bool) → e ≡ true → OnlyIf e ((w : ℕ) × In D w × OnPair D m n a w × Lays D (OnLabel D) k (some w) × Ways D m n k (some w))
+          → Lays D (OnLabel D) (tree a k bare) none
       bit true q (w, i, on, l, ws) = ((w, i, on .0, l), tt)
       bit false q x = never cc

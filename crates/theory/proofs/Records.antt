@@ -65,20 +65,18 @@ sorted-ordered bare = tt
 sorted-ordered (tree a k r) = sorted-place a (ordered k) (ordered r) (sorted-ordered k) (sorted-ordered r)
 
 -- ------------------------------------------------------------------ reading records back
--- the label and the marks of their codes
-abbrev labFrom : ℕ → Lab
-labFrom zero = any
-labFrom (suc l) = lab l
-
+-- the marks of their code
 abbrev marksFrom : ℕ → Bool × Bool
 marksFrom zero = (false, false)
 marksFrom (suc zero) = (true, false)
 marksFrom (suc (suc zero)) = (false, true)
 marksFrom (suc (suc (suc n))) = (true, true)
 
-lab-from : (l : Lab) → labFrom (labCode l) ≡ l
-lab-from any = refl
-lab-from (lab l) = refl
+lab-back : (l m : Lab) → labCode l ≡ labCode m → l ≡ m
+lab-back any any e = refl
+lab-back any (lab m) e = absurd (omega arith)
+lab-back (lab l) any e = absurd (omega arith)
+lab-back (lab l) (lab m) e = ap lab (omega arith)
 
 marks-from : (s d : Bool) → marksFrom (markCode s d) ≡ (s, d)
 marks-from false false = refl
@@ -87,11 +85,8 @@ marks-from false true = refl
 marks-from true true = refl
 
 tag-back : (a b : Tag) → labCode (a .lab) ≡ labCode (b .lab) → markCode (a .src) (a .dst) ≡ markCode (b .src) (b .dst) → a ≡ b
-tag-back a b el em = λ i. record { lab = l i; src = (m i) .0; dst = (m i) .1 }
+tag-back a b el em = λ i. record { lab = lab-back (a .lab) (b .lab) el i; src = (m i) .0; dst = (m i) .1 }
   where
-    l : a .lab ≡ b .lab
-    l = sym (lab-from (a .lab)) ∙ ap labFrom el ∙ lab-from (b .lab)
-
     m : _≡_ {A = Bool × Bool} (a .src, a .dst) (b .src, b .dst)
     m = sym (marks-from (a .src) (a .dst)) ∙ ap marksFrom em ∙ marks-from (b .src) (b .dst)
 

@@ -1,4 +1,5 @@
--- "Of two different brothers where one folds onto the other, the folding one goes, with all below it" (01, Folding): what is left folds onto the whole
+-- "Of two different brothers where one folds onto the other, the folding one goes, with all below it" (01, Folding): what is left folds
+-- onto the whole
 -- and the whole onto it, what did not fold before does not fold after, and removals come to an end where no two brothers are left that fold.
 use mathlib.Core.Path.{_≡_, refl}
 use mathlib.Core.Logic.{_⊎_, inl, inr}

@@ -11,10 +11,10 @@ use lib.Seq.{drop-append-seam, drop-drop}
 use lib.Dec.{ltb, leb}
 use borrow.Author.Tests.{lt-ltb, le-ltb, le-leb, ne-eqb, ltb-true, ltb-false, leb-true}
 use Rattle.meaning.specs.Expression.{Expr, empty, self, child, parent, label, comp, inter, proj1, proj2, inv, steps}
-use Rattle.meaning.specs.Number.{num, Got, got, broken, groups, notAbove, readNumber, largestSign}
+use Rattle.meaning.specs.Number.{num, Got, got, broken, groups, notAbove, readUpTo, readNumber, largestSign}
 use Rattle.meaning.specs.Word.{Outcome, refused, answered, andThen, operand, signs, signOf, isStep, Pending, applied, takes, atEnd, onNumber, run, readWord}
 use Rattle.meaning.specs.Normal.{wordOf}
-use Rattle.theory.proofs.Numbers.{num-one, read-num, groups-length}
+use Rattle.theory.proofs.Numbers.{num-one, read-num, groups-got}
 use Rattle.theory.proofs.Labels.{LabelsIn}
 use Rattle.theory.proofs.Operands.{need}
 use Rattle.theory.proofs.Limits.{InRange}
@@ -29,13 +29,16 @@ notAbove-back top (got w j) v n e = go (leb w top) refl e
     go true q e′ = let z : w ≡ v = cc in (e′, omega (arith, leb-true w top q))
     go false q e′ = never cc
 
--- a number that is read takes a byte or more of the word, and is a sign
+-- a number that is read takes a byte or more of the bytes, and is not above the top
+pub read-back : (top : ℕ) (bytes : List ℕ) (at v n : ℕ) → readUpTo top bytes at ≡ got v n → (at < length bytes) × (0 < n) × (v ≤ top)
+read-back top bytes at v n e =
+    let (g, le) = notAbove-back top (groups true (drop at bytes)) v n e in
+    let (p, q, _) = groups-got true (drop at bytes) v n g in
+    let l = length-drop at bytes in (omega arith, p, le)
+
 pub number-read : (word : List ℕ) (at v n : ℕ) → readNumber word at ≡ got v n → (at < length word) × (0 < n) × (v ≤ largestSign)
 unfolding readNumber
-number-read word at v n e =
-    let (g, le) = notAbove-back largestSign (groups true (drop at word)) v n e in
-    let (p, q) = groups-length true (drop at word) v n g in
-    let l = length-drop at word in (omega arith, p, le)
+number-read = read-back largestSign
 
 -- a number that is written at a place is read there
 read-at : (word : List ℕ) (at v : ℕ) (rest : List ℕ) → drop at word ≡ num v ++ rest → v ≤ largestSign → readNumber word at ≡ got v (length (num v))
@@ -79,7 +82,8 @@ module _ (word : List ℕ) where
   run-past zero at st le = refl
   run-past (suc k) at st le = rw (le-ltb at (length word) le)
 
-  pub run-one : (k at : ℕ) (st : Pending) → at < length word → run (suc k) word at st ≡ onNumber (λ next u. run k word next u) at st (readNumber word at)
+  pub run-one : (k at : ℕ) (st : Pending) → at < length word
+      → run (suc k) word at st ≡ onNumber (λ next u. run k word next u) at st (readNumber word at)
   unfolding run
   run-one k at st lt = rw (lt-ltb at (length word) lt)
 

@@ -79,7 +79,8 @@ above-steps : (way l : List Expr) → total (aboveFactor way l) ≡ total way + 
 above-steps [] l = omega arith
 above-steps (x ∷ xs) l = let z = joined-steps x xs in omega arith
 
-around-steps : (way : List Expr) (a : Tag) (k : Forest Tag) → bit (src a) + count src k ≡ 1 → bit (dst a) + count dst k ≡ 1 → someTree bothIn k ≡ false
+around-steps : (way : List Expr) (a : Tag) (k : Forest Tag) → bit (src a) + count src k ≡ 1 → bit (dst a) + count dst k ≡ 1
+    → someTree bothIn k ≡ false
     → total (around way a k) ≡ total way + size k
 around-steps way a k s d e =
     let own : List Expr = labelled (a .lab) (off eitherIn k (downs k)) in

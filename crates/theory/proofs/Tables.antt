@@ -40,7 +40,8 @@ module _ (F : Forest Tag) where
   row-at : (i : ℕ) (x : Entry) → look (entries F none 0) i ≡ some x → at (tableOf F .rows) i ≡ some (rowOf x)
   row-at i x e = look-map rowOf (entries F none 0) i ∙ ap (mapped rowOf) e
 
-  entry-at : (i : ℕ) (u : Option ℕ) (l : Lab) → at (tableOf F .rows) i ≡ some (node u l) → (x : Entry) × (look (entries F none 0) i ≡ some x) × (x .up ≡ u)
+  entry-at : (i : ℕ) (u : Option ℕ) (l : Lab) → at (tableOf F .rows) i ≡ some (node u l)
+      → (x : Entry) × (look (entries F none 0) i ≡ some x) × (x .up ≡ u)
   entry-at i u l e = go (look (entries F none 0) i) refl
     where
       go : (o : Option Entry) → look (entries F none 0) i ≡ o → (x : Entry) × (look (entries F none 0) i ≡ some x) × (x .up ≡ u)
@@ -192,7 +193,8 @@ module _ (F : Forest Tag) (t : QueryTree F) where
   tag-at : (i : ℕ) (x : Entry) → look (entries F none 0) i ≡ some x → tagOf (tableOf F) i ≡ x .tag
   tag-at i x e = λ j. record { lab = labRow (row-at F i x e j); src = mark-at src (t .source) i x e j; dst = mark-at dst (t .dest) i x e j }
 
-  plant-tops : (f : Forest Tag) (p : Option ℕ) (b : ℕ) → Part (entries F none 0) f p b → (n : ℕ) → size f ≤ n → plant (tagOf (tableOf F)) (grow n (tableOf F)) (tops f b) ≡ f
+  plant-tops : (f : Forest Tag) (p : Option ℕ) (b : ℕ) → Part (entries F none 0) f p b → (n : ℕ) → size f ≤ n
+      → plant (tagOf (tableOf F)) (grow n (tableOf F)) (tops f b) ≡ f
   plant-tops bare p b part n le = refl
   plant-tops (tree a k r) p b part zero le = absurd (omega arith)
   plant-tops (tree a k r) p b part (suc n) le =

@@ -1,5 +1,7 @@
--- ".. the paper's minimality claims must come out for it" (01, Folding; paper, section 7): two forests that are folded to the end and fold onto each other
--- are the same up to the order of brothers; so every order of folding ends in the same tree, and none of the forests that fold to and fro with it is smaller.
+-- ".. the paper's minimality claims must come out for it" (01, Folding; paper, section 7): two forests that are folded to the end and fold
+-- onto each other
+-- are the same up to the order of brothers; so every order of folding ends in the same tree, and none of the forests that fold to and fro
+-- with it is smaller.
 use mathlib.Core.Path.{_≡_, refl, ap}
 use mathlib.Core.Logic.{_⊎_, inl, inr}
 use Prim.Native.Nat.{_≤_}
@@ -38,7 +40,8 @@ partner a k r (tree b j s) n rg (inl o) (inr z, y) = absurd (n (any-map (λ c i.
 partner a k r (tree b j s) n rg (inr x) (z, y) = inr (partner a k r s n (rg .1) x y)
 
 -- the others fold onto the others: first there ..
-any-cut : {P Q : Tag → Forest Tag → Type 0} → ((b : Tag) (j : Forest Tag) → P b j → ¬ Q b j) → (g : Forest Tag) (x : Any P g) → Any Q g → Any Q (cut P g x)
+any-cut : {P Q : Tag → Forest Tag → Type 0} → ((b : Tag) (j : Forest Tag) → P b j → ¬ Q b j) → (g : Forest Tag) (x : Any P g) → Any Q g
+    → Any Q (cut P g x)
 any-cut n bare x y = absurd x
 any-cut n (tree b j r) (inl p) (inl q) = absurd (n b j p q)
 any-cut n (tree b j r) (inl p) (inr y) = y

@@ -211,12 +211,14 @@ module _
             let (b, j, o, cs, cd, ca) = on-both k (omega arith) (omega arith) e′ in
             higher F way a k b j (omega arith) (omega arith) o ca (subst (First F (longer way a k)) o (ih e′))
 
-        go : (x : Bool) → bothIn a k ≡ x → (x || someTree bothIn r) ≡ true → Below → (someTree bothIn r ≡ true → First (factors r way) way (on bothIn r))
+        go : (x : Bool) → bothIn a k ≡ x → (x || someTree bothIn r) ≡ true → Below
+            → (someTree bothIn r ≡ true → First (factors r way) way (on bothIn r))
             → First (cond x (cond (someTree bothIn k) F (around way a k)) (factors r way)) way (cond x (tree a k (on bothIn r)) (on bothIn r))
         go true x e′ ik ir = below x ik (someTree bothIn k) refl
         go false x e′ ik ir = ir e′
 
-    pub factors-ind : (a : Tag) (k : Forest Tag) → count src (tree a k bare) ≡ 1 → count dst (tree a k bare) ≡ 1 → G (factors (tree a k bare) []) [] a k
+    pub factors-ind : (a : Tag) (k : Forest Tag) → count src (tree a k bare) ≡ 1 → count dst (tree a k bare) ≡ 1
+        → G (factors (tree a k bare) []) [] a k
     factors-ind a k s d =
         let b = top-both a k s d in
         let F : List Expr = factors (tree a k bare) [] in

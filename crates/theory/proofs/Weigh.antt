@@ -1,4 +1,5 @@
--- Every row of a tree query stands once in the tree that is read off it: whatever is counted, the tree has as many such nodes as the table has such rows.
+-- Every row of a tree query stands once in the tree that is read off it: whatever is counted, the tree has as many such nodes as the table
+-- has such rows.
 -- So the tree has as many nodes as the table has rows, and one node is s and one is d.
 use mathlib.Core.Path.{_≡_, refl, sym, ap, subst, _∙_}
 use mathlib.Core.Logic.{_≢_, inl, inr}
@@ -81,7 +82,8 @@ partition g N (node (some q) l ∷ C) b below =
     miss p ne (no ne′) = refl
 
 -- ------------------------------------------------------------------ counting in the tree, and in the table
-count-plant : (p : Tag → Bool) (tag : ℕ → Tag) (f : ℕ → Forest Tag) (js : List ℕ) → count p (plant tag f js) ≡ sumOver (λ j. bit (p (tag j)) + count p (f j)) js
+count-plant : (p : Tag → Bool) (tag : ℕ → Tag) (f : ℕ → Forest Tag) (js : List ℕ)
+    → count p (plant tag f js) ≡ sumOver (λ j. bit (p (tag j)) + count p (f j)) js
 count-plant p tag f [] = refl
 count-plant p tag f (j ∷ js) = let z = count-plant p tag f js in omega arith
 

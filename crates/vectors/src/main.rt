@@ -1,82 +1,65 @@
-// Walks through a corpus of the second implementation on standard input and makes every call in it. Then it tries the limits of 01 that
-// need a long word. A call that differs has a line; the last line counts the cases and the calls of the corpus.
+// Goes through a corpus of the second implementation on standard input and makes every call in it, as C makes it. A case with a call that
+// differs has a line; the last line counts the cases and the calls.
 mod call;
-mod case;
-mod limits;
-mod place;
+mod input;
 
-use case::BUFFER;
-use case::complain;
-use case::run_case;
-use libc::STDIN_FILENO;
+use call::Form;
+use call::run_form;
+use call::run_question;
+use input::next_bytes;
+use input::next_long;
+use input::next_number;
 use libc::STDOUT_FILENO;
-use place::number;
-use place::within;
 ghost use Prim.Native.Nat.{_≤_};
 
-// The u32 that comes next on standard input.
-fn next_number() -> u32 {
-    let mut bytes = [0u8; 4];
-    let n = io::read_full(STDIN_FILENO, &mut bytes);
-    number(&bytes[..n], 0)
+// The eight bytes `GULPHCO1`, read as a number.
+const CORPUS: u64 = 0x314F4348504C5547;
+
+fn judge(case: u32, ok: bool) {
+    if !ok {
+        io::print_decimal(STDOUT_FILENO, case as u64);
+        io::write_all(STDOUT_FILENO, b" differs\n");
+    }
 }
 
-// The next case's calls are made; how many they are, or 0 where there is no whole case.
-fn next_case(index: u64) -> u64
+// Makes the calls of one case, "u32 length of what follows; word; plain image, minimal image, normal form; u32 number of questions (0 or 1),
+// the questions", and answers how many they are.
+fn run_case(case: u32) -> u64
     ensures { λ r. ⌜ r ≤ 4 ⌝ }
 {
-    let length = next_number() as usize;
-    let mut case = [0u8; BUFFER];
-    let lent = within(&case, length);
-    let n = io::read_full(STDIN_FILENO, &mut case[..lent]);
-    if n < length {
-        complain(index, b": cut off, or too long");
-        return 0;
+    next_number();
+    let mut buffer = io::large_buffer();
+    let n = next_bytes(&mut buffer, next_number() as usize);
+    let word = &buffer[..n];
+    judge(case, run_form(Form::Plain, word));
+    judge(case, run_form(Form::Minimal, word));
+    judge(case, run_form(Form::Normal, word));
+    if next_number() == 0 {
+        return 3;
     }
-    run_case(index, &case, length)
+    judge(case, run_question(word));
+    4
 }
 
-// What was gone through.
-struct Counts {
-    cases: u32,
-    calls: u64,
-}
-
-// Goes through so many cases, or up to the first that is not whole.
-fn walk(cases: u32) -> Counts {
+// Makes the calls of so many cases, and answers how many they are.
+fn walk(cases: u32) -> u64 {
     let mut calls: u64 = 0;
     for i in 0..cases {
-        let made = next_case(i as u64);
-        if made == 0 {
-            return Counts { cases: i, calls };
-        }
-        calls += made;
+        calls += run_case(i);
     }
-    Counts { cases, calls }
-}
-
-fn is_corpus() -> bool {
-    let mut name = [0u8; 8];
-    let n = io::read_full(STDIN_FILENO, &mut name);
-    check::same(&name[..n], b"GULPHCO1")
-}
-
-fn write_counts(counts: Counts) {
-    io::print_decimal(STDOUT_FILENO, counts.cases as u64);
-    io::write_all(STDOUT_FILENO, b" cases, ");
-    io::print_decimal(STDOUT_FILENO, counts.calls);
-    io::write_all(STDOUT_FILENO, b" calls\n");
+    calls
 }
 
 // The corpus is "the eight bytes `GULPHCO1`, u32 number of cases, u32 length of the longest case, the cases".
 fn main() {
-    if !is_corpus() {
-        io::write_all(STDOUT_FILENO, b"no corpus\n");
+    if next_long() != CORPUS {
         return;
     }
     let cases = next_number();
     next_number();
-    let counts = walk(cases);
-    limits::run();
-    write_counts(counts);
+    let calls = walk(cases);
+    io::print_decimal(STDOUT_FILENO, cases as u64);
+    io::write_all(STDOUT_FILENO, b" cases, ");
+    io::print_decimal(STDOUT_FILENO, calls);
+    io::write_all(STDOUT_FILENO, b" calls\n");
 }

@@ -88,7 +88,8 @@ module _ (q : Tag → Bool) (W : Forest Tag → List Expr) (next : Tag → Fores
       rw (← h .0, ← z .0, way-tree (f u) (mapT f (below span u)) (mapT f r), in-covers q f x only span u e (z .1), t)
 
   -- from a row on to its child that holds x
-  pub walk-among : (u e : ℕ) (F : Forest ℕ) → Holds span u e F → (c : ℕ) → Among c F → Covers span c x → W (mapT f F) ≡ next (f c) (mapT f (below span c))
+  pub walk-among : (u e : ℕ) (F : Forest ℕ) → Holds span u e F → (c : ℕ) → Among c F → Covers span c x
+      → W (mapT f F) ≡ next (f c) (mapT f (below span c))
   walk-among u e bare h c a v = absurd a
   walk-among u e (tree i k r) h c (inl y) v =
       let y′ : u ≡ c = h .0 ∙ sym y in
@@ -124,7 +125,8 @@ module _ {code mark kids span up : List ℕ} {n : ℕ} (R : Rows code mark kids 
       top (inl q) = absurd (omega arith)
       top (inr a) = absurd a
 
-      go : ((getD up c 0 ≡ noRow) × Among c (shape span n)) ⊎ ((0 ≤ getD up c 0) × Among c (below span (getD up c 0))) → Among c (below span (getD up c 0))
+      go : ((getD up c 0 ≡ noRow) × Among c (shape span n)) ⊎ ((0 ≤ getD up c 0) × Among c (below span (getD up c 0)))
+          → Among c (below span (getD up c 0))
       go (inl (q, a)) = top (rw (rows-top code mark kids span up n R (omega arith) .shape-is) at a)
       go (inr (q, a)) = a
 
@@ -168,7 +170,8 @@ module _ {code mark kids span up : List ℕ} {n : ℕ} (R : Rows code mark kids 
     pub ups-step : (s : ℕ) → Covers span c s → upsAt code span s x ≡ upsAt code span s c ++ (ownAt code span s s c ++ (parent ∷ []))
     unfolding upsAt under
     ups-step s v =
-        walk-among (λ t. t .src) ups (λ b j. ups j ++ labelled (b .lab) (off srcIn j (parent ∷ []))) (λ b j r. refl) (tagged code s s) s (λ i. refl) span
+        walk-among (λ t. t .src) ups (λ b j. ups j ++ labelled (b .lab) (off srcIn j (parent ∷ []))) (λ b j r. refl) (tagged code s s) s
+        (λ i. refl) span
         (suc x) (x + getD span x 0) (below span x) (row-open x lx .held) c a v
         ∙ ap (λ (l : List Expr). ups (under code span s s c) ++ l) (own-is srcIn s s s s (src-same s s) c lc (parent ∷ []))
 

@@ -16,7 +16,8 @@ use Rattle.groups.specs.Put.{Written}
 use Rattle.branches.specs.Joining.{joint, fill, factor}
 use Rattle.branches.specs.Factors.{Row, ownAt}
 use Rattle.branches.proofs.Joining.{fill-nil, fill-one, fill-first, fill-parent, factor-first, factor-rest, factor-then, written-nil}
-use Rattle.branches.proofs.Joining.{written-is, written-then, written-length, written-reached, first-fits, rest-fits, rest-done, Left, left-is, left-fits, left-step}
+use Rattle.branches.proofs.Joining.{written-is, written-then, written-length, written-reached, first-fits}
+use Rattle.branches.proofs.Joining.{rest-fits, rest-done, Left, left-is, left-fits, left-step}
 use Rattle.ways.specs.Ways.{Covers, Among, Part, Climb, upsAt, downsAt, wayAt}
 use Rattle.ways.proofs.Walk.{row-open, among-from, ups-step, downs-step, way-step, ups-end, downs-end, way-end}
 use Rattle.ways.proofs.Steps.{covers-self, parent-less, parent-covers, parent-among, parent-least}
@@ -64,7 +65,8 @@ module _ {code kids span up : List ℕ} {t s : ℕ} (C : Climb code kids span up
       go (no ne) f =
           let (zs, e) = f ne in (
             (ownAt code span s s x ++ (parent ∷ [])) ++ zs,
-            e ∙ ap (λ (l : List Expr). l ++ zs) (rise-step x tx v ne) ∙ append-assoc (upsAt code span s x) (ownAt code span s s x ++ (parent ∷ [])) zs,
+            e ∙ ap (λ (l : List Expr). l ++ zs) (rise-step x tx v ne)
+                ∙ append-assoc (upsAt code span s x) (ownAt code span s s x ++ (parent ∷ [])) zs,
           )
 
   module _ (x : ℕ) (tx : t ≤ x) (v : Covers span x s) (ne : x ≡ t → ⊥)
@@ -92,9 +94,12 @@ module _ {code kids span up : List ℕ} {t s : ℕ} (C : Climb code kids span up
       pub rise-own : at + length (fill from at (ownAt code span s s x)) ≤ length d
       rise-own = first-fits own ((parent ∷ []) ++ later) refl d rise-reached rest-of-way
 
-      pub rise-parent : {d₁ : List ℕ} {a : ℕ} → Written d at (fill from at (ownAt code span s s x)) d₁ a → a + length (factor from a (num 3)) ≤ length d₁
+      pub rise-parent : {d₁ : List ℕ} {a : ℕ} → Written d at (fill from at (ownAt code span s s x)) d₁ a
+          → a + length (factor from a (num 3)) ≤ length d₁
       rise-parent {d₁} {a} y =
-          rw (← fill-parent from a) (first-fits (parent ∷ []) later refl d₁ (written-reached rise-reached y) (rest-fits own ((parent ∷ []) ++ later) refl d rise-reached y rest-of-way))
+          rw (← fill-parent from a)
+          (first-fits (parent ∷ []) later refl d₁ (written-reached rise-reached y)
+          (rest-fits own ((parent ∷ []) ++ later) refl d rise-reached y rest-of-way))
 
     pub rise-next : {d₁ d₂ : List ℕ} {a r : ℕ} → Written d at (fill from at (ownAt code span s s x)) d₁ a → Written d₁ a (factor from a (num 3)) d₂ r
         → Written d₀ from (fill from from (upsAt code span s (getD up x 0))) d₂ r
@@ -145,7 +150,11 @@ module _ {code kids span : List ℕ} {u : ℕ} (R : Row code kids span u) where
 
   pub top-covers : Covers span 0 u
   top-covers =
-      record { from = omega arith; to = omega (arith, R .within, rows-top code (R .mark) kids span (R .up) (R .n) (R .rows) (omega (arith, R .within)) .span-all) }
+      record {
+        from = omega arith;
+        to = omega
+            (arith, R .within, rows-top code (R .mark) kids span (R .up) (R .n) (R .rows) (omega (arith, R .within)) .span-all);
+      }
 
   -- the ways have an end
   pub downs-nil : {d : ℕ} → u ≡ d → downsAt code span d u ≡ []
@@ -194,4 +203,5 @@ module _ (code span : List ℕ) (from at t : ℕ) (ne : t ≡ 0 → ⊥) (d : Li
 
   pub above-done : {d₁ d₂ d₃ : List ℕ} {a b r : ℕ} → Written d at (fill at at (wayAt code span t 0)) d₁ a → Written d₁ a (6 ∷ []) d₂ b
       → Written d₂ b (joint (ltb from at)) d₃ r → Written d at (fill from at (aboveFactor (wayAt code span t 0) [])) d₃ r
-  above-done v w z = written-is (sym (above-some code span from at t ne)) (factor-then from at (fill at at (wayAt code span t 0) ++ (6 ∷ [])) (written-then v w) z)
+  above-done v w z = written-is (sym (above-some code span from at t ne))
+      (factor-then from at (fill at at (wayAt code span t 0) ++ (6 ∷ [])) (written-then v w) z)

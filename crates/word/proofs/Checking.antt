@@ -63,7 +63,8 @@ pub stands-start : (w : List ℕ) → Stands w (Next (record { pending = 0; step
 stands-start w = record { left = nothingPending; same = refl; whole = ap (λ k. run k w 0 nothingPending) (sym (sub-zero (length w))) }
 
 -- after the loop
-pub stands-last : (w : List ℕ) (turn : Turn) (at : ℕ) → Stands w turn at → goesOn turn at (length w) ≡ false → atLast turn (length w) ≡ verdict (allSigns w)
+pub stands-last : (w : List ℕ) (turn : Turn) (at : ℕ) → Stands w turn at → goesOn turn at (length w) ≡ false
+    → atLast turn (length w) ≡ verdict (allSigns w)
 unfolding atEnd
 stands-last w (Next counts) at r h =
     let e : length (r .left .operands) ≡ counts .pending = ap (λ c. c .pending) (r .same) in

@@ -54,7 +54,8 @@ module _ (sign : ℕ) (st : Pending) (at : ℕ) {counts : Counts} (e : countsOf 
     pub operand-refused : 256 ≤ counts .pending → refused 4 at ≡ counting (takes sign st at)
     operand-refused h = rw (count-takes k, le-ltb (counts .pending) 256 h)
 
-    pub operand-taken : counts .pending < 256 → answered (record { pending = counts .pending + 1; steps = counts .steps }) ≡ counting (takes sign st at)
+    pub operand-taken : counts .pending < 256
+        → answered (record { pending = counts .pending + 1; steps = counts .steps }) ≡ counting (takes sign st at)
     operand-taken h = rw (count-takes k, lt-ltb (counts .pending) 256 h)
 
   module _ (k : kindOf sign ≡ Step) where
@@ -65,7 +66,8 @@ module _ (sign : ℕ) (st : Pending) (at : ℕ) {counts : Counts} (e : countsOf 
     pub step-256th : counts .pending < 256 → 255 ≤ counts .steps → refused 5 at ≡ counting (takes sign st at)
     step-256th h l = rw (count-takes k, lt-ltb (counts .pending) 256 h, le-ltb (counts .steps) 255 l)
 
-    pub step-taken : counts .pending < 256 → counts .steps < 255 → answered (record { pending = counts .pending + 1; steps = counts .steps + 1 }) ≡ counting (takes sign st at)
+    pub step-taken : counts .pending < 256 → counts .steps < 255
+        → answered (record { pending = counts .pending + 1; steps = counts .steps + 1 }) ≡ counting (takes sign st at)
     step-taken h l = rw (count-takes k, lt-ltb (counts .pending) 256 h, lt-ltb (counts .steps) 255 l)
 
   module _ (k : kindOf sign ≡ Unary) where

@@ -1,4 +1,5 @@
--- What the walks over a cursor share: a cursor and what was read, as values of the machine; a cursor in memory, as a local's cell and as what is lent; the test of a loop;
+-- What the walks over a cursor share: a cursor and what was read, as values of the machine; a cursor in memory, as a local's cell and as
+-- what is lent; the test of a loop;
 -- and the call of a covered function on what was read and a place.
 use mathlib.Core.Path.{_≡_, refl}
 use mathlib.Core.Bool.{Bool, true, false}
@@ -61,19 +62,22 @@ module _ {M : Type 1} {𝓤 : URA M} {H : Heap 𝓤} {A : Atoms 𝓤} {K : Type 
   read-owned t read u is = owned t S.the-row (Is S.the-row) ((EL.makes S.the-type S′.the-plain) 𝓤 H A) read _ is
 
   -- what was read and is owned is a value of its type
-  pub read-seen : K → (read : Read) (u : Val) → (Is S.the-row read (u ∷ []) → Seq K W (‵ (S.the-row .own read (u ∷ [])) ∷ Γ) G) → Seq K W (‵ (S.the-row .own read (u ∷ [])) ∷ Γ) G
+  pub read-seen : K → (read : Read) (u : Val) → (Is S.the-row read (u ∷ []) → Seq K W (‵ (S.the-row .own read (u ∷ [])) ∷ Γ) G)
+      → Seq K W (‵ (S.the-row .own read (u ∷ [])) ∷ Γ) G
   read-seen t read u = peeks t S.the-row (Is S.the-row) (shows 𝓤 H A S.the-row) read (u ∷ [])
 
 -- the test of a `while`: the turn goes on, or the loop is left
 module _ {M : Type 1} {𝓤 : URA M} {H : Heap 𝓤} {A : Atoms 𝓤} {K : Type 0} {W : Given 𝓤 H A} {Γ : List (Item 𝓤)} {E : Env 𝓤 H} {C : Calls 𝓤 H} {Λ : Loops 𝓤 H} {q : Post 𝓤 H} where
   pub tests : K → {c : Operand} {n : ℕ} {b : Code} {y : Bool} → Opd K W Γ E c (vbool y)
-      → (y ≡ true → Seq K W Γ (runs C Λ E b q)) → (y ≡ false → Seq K W Γ (prop (post 𝓤 H q (exits n)))) → Seq K W Γ (runs C Λ E (seq (cond c skip (exit n)) b) q)
+      → (y ≡ true → Seq K W Γ (runs C Λ E b q)) → (y ≡ false → Seq K W Γ (prop (post 𝓤 H q (exits n))))
+      → Seq K W Γ (runs C Λ E (seq (cond c skip (exit n)) b) q)
   tests t {y = true} o on off = stays t o $ on refl
   tests t {y = false} o on off = leaves-loop t o $ off refl
 
 -- a local as an operand: entry n of the context is its cell
 module _ {M : Type 1} {𝓤 : URA M} {H : Heap 𝓤} {A : Atoms 𝓤} {K : Type 0} {W : Given 𝓤 H A} {Γ : List (Item 𝓤)} {E : Env 𝓤 H} where
-  pub loc : K → (n : ℕ) {i : ℕ} {q : Share} {v : Val} → nth 𝓤 H A n Γ ≡ ‵ (fat q (spotOf 𝓤 H E i .0) (spotOf 𝓤 H E i .1) 0 v) → Opd K W Γ E (copy (place i [])) v
+  pub loc : K → (n : ℕ) {i : ℕ} {q : Share} {v : Val} → nth 𝓤 H A n Γ ≡ ‵ (fat q (spotOf 𝓤 H E i .0) (spotOf 𝓤 H E i .1) 0 v)
+      → Opd K W Γ E (copy (place i [])) v
   loc t n e = load t (from t (stop t)) (look t n e)
 
 -- a cursor in memory: as the cell of a local, and as what is lent
@@ -100,7 +104,8 @@ module _ {M : Type 1} (𝓤 : URA M) (H : Heap 𝓤) (A : Atoms 𝓤) (W : Given
   read-typed = EL.lawful S.the-type S′.the-laws 𝓤 H A W tt .typed read _ is .0
 
   -- what a covered function of what was read and a place asks: both are plain data, so it is had for nothing
-  pub asks-nothing : (m : ℕ) → m < 2 ^ 64 → ent 𝓤 (emp 𝓤) (sep 𝓤 (sep 𝓤 (emp 𝓤) (sem 𝓤 H A (owns (S.the-row ∷ usize ∷ []) (read, (m, tt)) (u ∷ [], (vint w64 m ∷ [], tt))))) (emp 𝓤))
+  pub asks-nothing : (m : ℕ) → m < 2 ^ 64
+      → ent 𝓤 (emp 𝓤) (sep 𝓤 (sep 𝓤 (emp 𝓤) (sem 𝓤 H A (owns (S.the-row ∷ usize ∷ []) (read, (m, tt)) (u ∷ [], (vint w64 m ∷ [], tt))))) (emp 𝓤))
   asks-nothing m fits =
       qed W [] ∵ nothing ! $ place-owned ! m fits $ fjoin ! $
       owned ! S.the-row (Is S.the-row) ((EL.makes S.the-type S′.the-plain) 𝓤 H A) read _ is $ fjoin ! $ nothing ! $ join ! $ frame ! $ done !

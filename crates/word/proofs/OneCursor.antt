@@ -1,4 +1,5 @@
--- The call of `read_sign` with a cursor that stands in a local, for the walks of the loops in which one cursor goes through a word. The cursor is lent for a lifetime
+-- The call of `read_sign` with a cursor that stands in a local, for the walks of the loops in which one cursor goes through a word. The
+-- cursor is lent for a lifetime
 -- made for the call; once that has ended the local holds it again, where `read_sign` left it.
 use mathlib.Core.Path.{_≡_}
 use mathlib.Core.List.{List, [], _∷_}
@@ -101,7 +102,8 @@ module _ {M : Type 1} (𝓤 : URA M) (H : Heap 𝓤) (A : Atoms 𝓤) (at-mem : 
             use1 W (later (some (λ (δ : GName). ‵ (MutRef (named 0) (α ∷ []) T.the-row .own (args α δ .0) (vptr l 0 ∷ []))
             ⊛ ‵ (flent (α ∷ []) (Body (mem T.the-row) l 0 δ)))))
             (lends-ref 𝓤 H A W T.the-row (named 0) (α ∷ []) (standing m) l 0) $ await ! tt $ pick ! (λ δ. split ! $
-            -- [the reference; the lender's part; the lifetime; the word's token; the word]: the word is had twice, one goes to the call with the tokens and the reference
+            -- [the reference; the lender's part; the lifetime; the word's token; the word]: the word is had twice, one goes to the call
+            -- with the tokens and the reference
             move ! (4 ∷ []) $ use1 W (‵ Word ⊛ ‵ Word) (shr-slice-copy 𝓤 H A W (named 0) κ u8 .twice w (v ∷ [])) $ split ! $
             move ! (4 ∷ 5 ∷ []) $ join ! $ nothing ! $ move ! (2 ∷ 0 ∷ []) $ fjoin ! $ move ! (3 ∷ 0 ∷ []) $ fjoin ! $ move ! (1 ∷ 0 ∷ []) $
             use2 W (raw (ReadSign .pre (to α δ))) (asked α δ) $

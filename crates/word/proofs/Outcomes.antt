@@ -1,7 +1,6 @@
 -- Outcomes: answered and refused are never the same.
 use mathlib.Core.Path.{_≡_}
 use Prim.Native.Nat.{ℕ}
-use native.Mathlib.Omega.{arith}
 use Rattle.meaning.specs.Word.{refused, answered}
 use Rattle.theory.proofs.Look.{never}
 

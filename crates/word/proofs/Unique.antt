@@ -3,7 +3,7 @@ use mathlib.Core.Path.{_≡_, refl, sym, ap, _∙_}
 use mathlib.Core.List.{List}
 use Prim.Native.Nat.{ℕ, _-_}
 use native.Mathlib.Omega.{arith}
-use Rattle.meaning.specs.Number.{got, readNumber}
+use Rattle.meaning.specs.Number.{got, largestSign, readUpTo, readNumber}
 use Rattle.meaning.specs.Word.{readWord}
 use Rattle.theory.proofs.Look.{never}
 use Rattle.word.specs.Answer.{gotOf, checkedOf, verdict}
@@ -12,23 +12,26 @@ use Rattle.word.specs.declared.number.Read.{Read}
 use Rattle.word.specs.declared.number.Read.the-variants.{Number, Broken}
 use Rattle.word.specs.declared.whole.Checked.{Checked}
 use Rattle.word.specs.declared.whole.Checked.the-variants.{Accepted, Refused}
-use Rattle.word.proofs.Numbers.{number-at}
+use Rattle.word.proofs.Numbers.{read-moves}
 use Rattle.word.proofs.Outcomes.{refused-answered}
 
-pub read-unique : (w : List ℕ) (at : ℕ) (r r′ : Read) → gotOf at r ≡ readNumber w at → gotOf at r′ ≡ readNumber w at → r ≡ r′
-read-unique w at (Number v next) (Number v′ next′) p q =
+pub read-unique : (top : ℕ) (w : List ℕ) (at : ℕ) (r r′ : Read) → gotOf at r ≡ readUpTo top w at → gotOf at r′ ≡ readUpTo top w at → r ≡ r′
+read-unique top w at (Number v next) (Number v′ next′) p q =
     let y : got v (next - at) ≡ got v′ (next′ - at) = p ∙ sym q in
     let e : v ≡ v′ = cc in
     let d : next - at ≡ next′ - at = cc in
-    let f : next ≡ next′ = omega (arith, number-at w at p refl .moved, number-at w at q refl .moved) in
+    let f : next ≡ next′ = omega (arith, read-moves top w at v next p, read-moves top w at v′ next′ q) in
     cc
-read-unique w at (Number v next) Broken p q = never cc
-read-unique w at Broken (Number v next) p q = never cc
-read-unique w at Broken Broken p q = refl
+read-unique top w at (Number v next) Broken p q = never cc
+read-unique top w at Broken (Number v next) p q = never cc
+read-unique top w at Broken Broken p q = refl
 
 -- and a cursor is left at one place
-pub moved-unique : (w : List ℕ) (at : ℕ) (r r′ : Read) (m m′ : ℕ) → (gotOf at r ≡ readNumber w at) × (m ≡ placePast at r) → (gotOf at r′ ≡ readNumber w at) × (m′ ≡ placePast at r′) → (r ≡ r′) × (m ≡ m′)
-moved-unique w at r r′ m m′ (p, e) (q, d) = let same = read-unique w at r r′ p q in (same, e ∙ ap (placePast at) same ∙ sym d)
+pub moved-unique : (w : List ℕ) (at : ℕ) (r r′ : Read) (m m′ : ℕ) → (gotOf at r ≡ readNumber w at) × (m ≡ placePast at r)
+    → (gotOf at r′ ≡ readNumber w at) × (m′ ≡ placePast at r′) → (r ≡ r′) × (m ≡ m′)
+unfolding readNumber
+moved-unique w at r r′ m m′ (p, e) (q, d) =
+    let same = read-unique largestSign w at r r′ p q in (same, e ∙ ap (placePast at) same ∙ sym d)
 
 pub checked-unique : (w : List ℕ) (r r′ : Checked) → checkedOf r ≡ verdict (readWord w) → checkedOf r′ ≡ verdict (readWord w) → r ≡ r′
 checked-unique w r r′ p q = go r r′ (p ∙ sym q)

@@ -1,10 +1,12 @@
--- "When an answer is an enum, a definition tells you this paper's number and values for each of its cases": what each answer stands for in the definitions of `meaning`.
+-- "When an answer is an enum, a definition tells you this paper's number and values for each of its cases": what each answer stands for in
+-- the definitions of `meaning`.
 use mathlib.Core.Bool.{Bool, false, cond}
 use Prim.Native.Nat.{ℕ, _-_}
 use lib.Dec.{ltb, eqb}
 use mathlib.Core.List.{List, []}
 use lib.ListN.{length}
 use Rattle.meaning.specs.Expression.{Expr}
+use Rattle.meaning.specs.Limits.{badNumber, notOneOperand}
 use Rattle.meaning.specs.Number.{Got, got, broken}
 use Rattle.meaning.specs.Word.{Outcome, refused, answered, andThen, Pending, takes, run}
 use Rattle.word.specs.declared.number.Read.{Read}
@@ -36,7 +38,7 @@ turnOf (Stop number place) = refused number place
 -- what was read at place `at`, as a sign: "2: a number is cut off, not shortest, or above 65,544"
 abbrev pub takesRead : Read → Pending → ℕ → Outcome Pending
 takesRead (Number value next) st at = takes value st at
-takesRead Broken st at = refused 2 at
+takesRead Broken st at = refused badNumber at
 
 -- another sign is to be read at place `at`
 abbrev pub goesOn : Turn → ℕ → ℕ → Bool
@@ -49,7 +51,7 @@ allSigns word = run (length word) word 0 (record { operands = []; steps = 0 })
 
 -- after the last sign: "6: at the end, pending operands are not exactly one"
 abbrev pub atLast : Turn → ℕ → Outcome (Unit {0})
-atLast (Next counts) end = cond (eqb (counts .pending) 1) (answered tt) (refused 6 end)
+atLast (Next counts) end = cond (eqb (counts .pending) 1) (answered tt) (refused notOneOperand end)
 atLast (Stop number place) end = refused number place
 
 -- a word: refused with a number and a place, or accepted

@@ -23,7 +23,10 @@ fn past(read: Read, at: usize) -> usize
 
 // The number where the cursor stands; the cursor moves past it.
 pub fn read_sign<'c, 'a>(cursor: &'c mut Cursor, word: &'a [u8]) -> Read
-    ensures { λ r. ⌜ (gotOf (now (cursor .entry) .at) r ≡ readNumber (now (word .entry)) (now (cursor .entry) .at)) × (now (cursor .exit) .at ≡ placePast (now (cursor .entry) .at) r) ⌝ }
+    ensures { λ r. ⌜
+        (gotOf (now (cursor .entry) .at) r ≡ readNumber (now (word .entry)) (now (cursor .entry) .at))
+        × (now (cursor .exit) .at ≡ placePast (now (cursor .entry) .at) r)
+        ⌝ }
 {
     let at = cursor.at;
     let read = read_number(word, at);

@@ -1,4 +1,5 @@
-// The check of a word: refusals 1 to 6, "signs from left to right, the first bad sign deciding". Only the numbers of pending operands and of steps are kept.
+// The check of a word: refusals 1 to 6, "signs from left to right, the first bad sign deciding". Only the numbers of pending operands and of
+// steps are kept.
 use crate::cursor::Cursor;
 use crate::cursor::read_sign;
 use crate::number::Read;

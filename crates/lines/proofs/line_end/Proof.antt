@@ -1,4 +1,4 @@
--- The end lies between the line's first byte and the text's end.
+-- The end lies behind the line's first byte, and not behind the text's end.
 use Prim.Native.Nat.{_-_, _≤_}
 use lib.ListN.{length}
 use borrow.Author.Needs.{needs}
@@ -17,6 +17,7 @@ line-end-spec =
     (tie.spec
     Inv-loop
     μ-loop
+    (λ c. search needs)
     (λ c. search needs)
     (λ c. search needs)
     (λ c. search needs)

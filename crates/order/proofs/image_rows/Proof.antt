@@ -6,11 +6,11 @@ use Rattle.order.proofs.image_rows.Statement.{statement}
 use Rattle.order.proofs.image_rows.Tie as tie
 use Rattle.order.proofs.image_rows.Reads as reads
 use Rattle.order.proofs.image_rows.Lts as lts
-use Rattle.order.proofs.bear.Reads as bear-reads
-use Rattle.order.proofs.clear.Reads as clear-reads
-use Rattle.order.proofs.lay.Reads as lay-reads
+use Rattle.order.proofs.laying.bear.Reads as bear-reads
+use Rattle.order.proofs.children.clear.Reads as clear-reads
+use Rattle.order.proofs.laying.lay.Reads as lay-reads
 use Rattle.rows.proofs.link.Reads as link-reads
-use Rattle.order.proofs.sort_rows.Reads as sort-rows-reads
+use Rattle.order.proofs.brothers.sort_rows.Reads as sort-rows-reads
 
 sort-rows-requires : tie.Need-sort-rows-requires
 sort-rows-requires c κs =

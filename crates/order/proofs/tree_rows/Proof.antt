@@ -7,10 +7,10 @@ use Rattle.order.proofs.tree_rows.Statement.{statement}
 use Rattle.order.proofs.tree_rows.Tie as tie
 use Rattle.order.proofs.tree_rows.Reads as reads
 use Rattle.order.proofs.tree_rows.Lts as lts
-use Rattle.order.proofs.bear.Reads as bear-reads
-use Rattle.order.proofs.clear.Reads as clear-reads
-use Rattle.order.proofs.gather.Reads as gather-reads
-use Rattle.order.proofs.lay.Reads as lay-reads
+use Rattle.order.proofs.laying.bear.Reads as bear-reads
+use Rattle.order.proofs.children.clear.Reads as clear-reads
+use Rattle.order.proofs.children.gather.Reads as gather-reads
+use Rattle.order.proofs.laying.lay.Reads as lay-reads
 use Rattle.rows.proofs.link.Reads as link-reads
 
 gather-requires : tie.Need-gather-requires

@@ -17,9 +17,7 @@ walk-spec =
     Inv-loop
     μ-loop
     (λ c. search needs)
-    (λ c. search needs)
     (λ c κs. search needs)
-    (λ c. search needs)
     (λ c. search needs)
     (λ c. search needs)
     (λ c. search needs)

@@ -19,28 +19,35 @@ way-requires c κs =
 
 put-byte-requires : tie.Need-put-byte-requires
 put-byte-requires c κs =
-    let s = c .before .before .before .before .before .before .before .before .before .before in
-    let if1 = c .before .before .before .before .before .if1 in
-    let way = c .before .before .before .way in
+    let b = c .before .before .before in
+    let s = b .before .before .before .before .before .before .before in
+    let if1 = b .before .before .if1 in
+    let way = b .way in
     six-fits _ _ _ _ (s .args .t) (λ z. omega (arith, if1 .left)) (s .args .room .now) (s .pre .1) (way .ensures)
 
 join-requires : tie.Need-join-requires
 join-requires c κs =
-    let s = c .before .before .before .before .before .before .before .before .before .before .before .before .before .before in
-    let if1 = c .before .before .before .before .before .before .before .before .before .if1 in
-    let way = c .before .before .before .before .before .before .before .way in
-    let put-byte = c .before .before .before .put-byte in
-    above-joint (s .args .code .now) (s .args .span .now) (s .args .from) (s .args .at) (s .args .t) (λ z. omega (arith, if1 .left)) (s .args .room .now) (s .pre .1) (way .ensures)
+    let b = c .before .before .before in
+    let b2 = b .before .before .before .before in
+    let s = b2 .before .before .before .before .before .before .before in
+    let if1 = b2 .before .before .if1 in
+    let way = b2 .way in
+    let put-byte = b .put-byte in
+    above-joint (s .args .code .now) (s .args .span .now) (s .args .from) (s .args .at) (s .args .t) (λ z. omega (arith, if1 .left))
+    (s .args .room .now) (s .pre .1) (way .ensures)
     (record { place = put-byte .ensures .0; bytes = put-byte .ensures .1 })
 
 returns-2 : tie.Need-returns-2
 returns-2 c =
-    let s = c .before .before .before .before .before .before .before .before .before .before .before .before .before .before .before .before .before in
-    let if1 = c .before .before .before .before .before .before .before .before .before .before .before .before .if1 in
-    let way = c .before .before .before .before .before .before .before .before .before .before .way in
-    let put-byte = c .before .before .before .before .before .before .put-byte in
+    let b = c .before .before .before .before .before .before in
+    let b2 = b .before .before .before .before in
+    let s = b2 .before .before .before .before .before .before .before in
+    let if1 = b2 .before .before .if1 in
+    let way = b2 .way in
+    let put-byte = b .put-byte in
     let join = c .before .before .join in
-    above-done _ _ _ _ (s .args .t) (λ z. omega (arith, if1 .left)) _ (way .ensures) (record { place = put-byte .ensures .0; bytes = put-byte .ensures .1 }) (join .ensures)
+    above-done _ _ _ _ (s .args .t) (λ z. omega (arith, if1 .left)) _ (way .ensures)
+    (record { place = put-byte .ensures .0; bytes = put-byte .ensures .1 }) (join .ensures)
 
 pub above-spec : {M : Type 1} → statement M
 above-spec =

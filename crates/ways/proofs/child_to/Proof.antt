@@ -57,13 +57,4 @@ loop-again c =
 pub child-to-spec : {M : Type 1} → statement M
 child-to-spec =
     tie.close
-    (tie.spec
-    Inv-loop
-    μ-loop
-    add-c
-    loop-holds
-    link-requires
-    add-next
-    returns
-    loop-less
-    loop-again)
+    (tie.spec Inv-loop μ-loop add-c loop-holds link-requires add-next returns loop-less loop-again)

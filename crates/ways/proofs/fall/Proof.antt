@@ -14,7 +14,8 @@ use Rattle.ways.proofs.fall.Statement.{statement}
 use Rattle.ways.proofs.fall.Tie as tie
 
 abbrev Inv-loop : tie.InvT-loop
-Inv-loop code kids span t d room₀ from at x₀ place₀ room x place = Row code kids span x × Covers span x d × Left room₀ from place₀ (downsAt code span d t) room place (downsAt code span d x)
+Inv-loop code kids span t d room₀ from at x₀ place₀ room x place = Row code kids span x × Covers span x d
+    × Left room₀ from place₀ (downsAt code span d t) room place (downsAt code span d x)
     × (place₀ + length (fill from place₀ (downsAt code span d t)) ≤ length room₀)
 
 abbrev μ-loop : tie.MeasureT-loop
@@ -30,8 +31,9 @@ child-to-requires c κs = let (R, v, L, f) = c .before .loop .inv in (row-part R
 
 put-sign-requires : tie.Need-put-sign-requires Inv-loop μ-loop
 put-sign-requires c κs =
-    let s = c .before .before .before .before .before .before .before .before in
-    let l = c .before .before .before .loop in
+    let l2 = c .before .before .before in
+    let s = l2 .before .before .before .before .before in
+    let l = l2 .loop in
     let child-to = c .before .child-to in
     let (R, v, L, f) = l .inv in
     let (a, w) = child-to .ensures in
@@ -40,10 +42,12 @@ put-sign-requires c κs =
 
 own-requires : tie.Need-own-requires Inv-loop μ-loop
 own-requires c κs =
-    let s = c .before .before .before .before .before .before .before .before .before .before .before .before in
-    let l = c .before .before .before .before .before .before .before .loop in
-    let child-to = c .before .before .before .before .before .child-to in
-    let put-sign = c .before .before .before .put-sign in
+    let b = c .before .before .before in
+    let b2 = b .before .before in
+    let s = b2 .before .before .before .before .before .before .before in
+    let l = b2 .before .before .loop in
+    let child-to = b2 .child-to in
+    let put-sign = b .put-sign in
     let (R, v, L, f) = l .inv in
     let (a, w) = child-to .ensures in
     let mine = (ownAt (s .args .code .now) (s .args .span .now) (s .args .d) (s .args .d) (child-to .result)) in
@@ -52,18 +56,21 @@ own-requires c κs =
 
 loop-less : tie.Need-loop-less Inv-loop μ-loop
 loop-less c =
-    let l = c .before .before .before .before .before .before .before .before .before .before .loop in
-    let child-to = c .before .before .before .before .before .before .before .before .child-to in
+    let b2 = c .before .before .before .before .before .before .before .before in
+    let l = b2 .before .before .loop in
+    let child-to = b2 .child-to in
     let (R, v, L, f) = l .inv in
     let (a, w) = child-to .ensures in
     let b = child-behind R a w v in omega (arith, w .from)
 
 loop-again : tie.Need-loop-again Inv-loop μ-loop
 loop-again c =
-    let s = c .before .before .before .before .before .before .before .before .before .before .before .before .before .before .before in
-    let l = c .before .before .before .before .before .before .before .before .before .before .loop in
-    let child-to = c .before .before .before .before .before .before .before .before .child-to in
-    let put-sign = c .before .before .before .before .before .before .put-sign in
+    let b = c .before .before .before .before .before .before in
+    let b2 = b .before .before in
+    let s = b2 .before .before .before .before .before .before .before in
+    let l = b2 .before .before .loop in
+    let child-to = b2 .child-to in
+    let put-sign = b .put-sign in
     let own = c .before .before .own in
     let (R, v, L, f) = l .inv in
     let (a, w) = child-to .ensures in
@@ -75,20 +82,11 @@ same-length : tie.Need-same-length Inv-loop μ-loop
 same-length c = c .before .loop .inv .2 .same
 
 returns : tie.Need-returns Inv-loop μ-loop
-returns c = let (R, v, L, f) = c .before .loop .inv in
+returns c =
+    let (R, v, L, f) = c .before .loop .inv in
     left-end (left-is (downs-nil R (c .loop-test .left)) L)
 
 pub fall-spec : {M : Type 1} → statement M
 fall-spec =
     tie.close
-    (tie.spec
-    Inv-loop
-    μ-loop
-    loop-holds
-    child-to-requires
-    put-sign-requires
-    own-requires
-    loop-less
-    loop-again
-    same-length
-    returns)
+    (tie.spec Inv-loop μ-loop loop-holds child-to-requires put-sign-requires own-requires loop-less loop-again same-length returns)

@@ -35,27 +35,21 @@ link-requires c κs =
 
 loop-less : tie.Need-loop-less Inv-loop μ-loop
 loop-less c =
-    let s = c .before .before .before .before .before .before in
-    let l = c .before .before .before .loop in
-    let holds = c .before .before .holds in
+    let b = c .before .before in
+    let s = b .before .before .before .before in
+    let l = b .before .loop in
+    let holds = b .holds in
     let l = lowest-less (s .pre) (l .inv) (sym (holds .ensures) ∙ c .before .if1 .left) in omega (arith, c .link .ensures .0)
 
 loop-again : tie.Need-loop-again Inv-loop μ-loop
 loop-again c =
-    let s = c .before .before .before .before .before .before in
-    let l = c .before .before .before .loop in
-    let holds = c .before .before .holds in
+    let b = c .before .before in
+    let s = b .before .before .before .before in
+    let l = b .before .loop in
+    let holds = b .holds in
     rw (c .link .ensures .0) (lowest-next (s .pre) (l .inv) (sym (holds .ensures) ∙ c .before .if1 .left))
 
 pub lowest-spec : {M : Type 1} → statement M
 lowest-spec =
     tie.close
-    (tie.spec
-    Inv-loop
-    μ-loop
-    loop-holds
-    holds-requires
-    returns
-    link-requires
-    loop-less
-    loop-again)
+    (tie.spec Inv-loop μ-loop loop-holds holds-requires returns link-requires loop-less loop-again)

@@ -10,7 +10,8 @@ use Rattle.ways.proofs.rise.Statement.{statement}
 use Rattle.ways.proofs.rise.Tie as tie
 
 abbrev Inv-loop : tie.InvT-loop
-Inv-loop code kids span up s t room₀ from x₀ at₀ room x at = (t ≤ x) × Covers span x s × Written room₀ from (fill from from (upsAt code span s x)) room at
+Inv-loop code kids span up s t room₀ from x₀ at₀ room x at = (t ≤ x) × Covers span x s
+    × Written room₀ from (fill from from (upsAt code span s x)) room at
 
 abbrev μ-loop : tie.MeasureT-loop
 μ-loop code kids span up s t room₀ from x₀ at₀ room x at = x
@@ -30,34 +31,41 @@ own-requires c κs =
 
 put-sign-requires : tie.Need-put-sign-requires Inv-loop μ-loop
 put-sign-requires c κs =
-    let s = c .before .before .before .before .before .before .before .before .before .before .before .before in
-    let l = c .before .before .before .before .before .before .loop in
-    let test = c .before .before .before .before .before .loop-test in
-    let own = c .before .before .before .own in
+    let b = c .before .before .before in
+    let b2 = b .before .before in
+    let s = b2 .before .before .before .before .before .before .before in
+    let l = b2 .before .loop in
+    let test = b2 .loop-test in
+    let own = b .own in
     let (tx, v, w) = l .inv in
     rise-parent (s .pre .0) (l .x) tx v (test .taken) _ w (s .pre .1) (own .ensures)
 
 link-requires : tie.Need-link-requires Inv-loop μ-loop
 link-requires c κs =
-    let s = c .before .before .before .before .before .before .before .before .before .before .before .before .before .before .before in
-    let l = c .before .before .before .before .before .before .before .before .before .loop in
+    let l2 = c .before .before .before .before .before .before .before .before .before in
+    let s = l2 .before .before .before .before .before .before in
+    let l = l2 .loop in
     let v = l .inv .1 in omega (arith, v .from, s .pre .0 .within, s .pre .0 .rows .ups)
 
 loop-less : tie.Need-loop-less Inv-loop μ-loop
 loop-less c =
-    let s = c .before .before .before .before .before .before .before .before .before .before .before .before .before .before .before .before in
-    let l = c .before .before .before .before .before .before .before .before .before .before .loop in
-    let test = c .before .before .before .before .before .before .before .before .before .loop-test in
+    let b = c .before .before .before .before .before .before .before .before .before in
+    let s = b .before .before .before .before .before .before .before in
+    let l = b .before .loop in
+    let test = b .loop-test in
     let (tx, v, w) = l .inv in
     let l = rise-less (s .pre .0) (l .x) tx v (test .taken) in omega (arith, c .link .ensures .0)
 
 loop-again : tie.Need-loop-again Inv-loop μ-loop
 loop-again c =
-    let s = c .before .before .before .before .before .before .before .before .before .before .before .before .before .before .before .before in
-    let l = c .before .before .before .before .before .before .before .before .before .before .loop in
-    let test = c .before .before .before .before .before .before .before .before .before .loop-test in
-    let own = c .before .before .before .before .before .before .before .own in
-    let put-sign = c .before .before .before .put-sign in
+    let b = c .before .before .before in
+    let b2 = b .before .before .before .before in
+    let b3 = b2 .before .before in
+    let s = b3 .before .before .before .before .before .before .before in
+    let l = b3 .before .loop in
+    let test = b3 .loop-test in
+    let own = b2 .own in
+    let put-sign = b .put-sign in
     let (tx, v, w) = l .inv in
     let C = s .pre .0 in
     let ne = test .taken in
@@ -76,14 +84,4 @@ returns c = rw (← c .loop-test .left) (c .before .loop .inv .2)
 pub rise-spec : {M : Type 1} → statement M
 rise-spec =
     tie.close
-    (tie.spec
-    Inv-loop
-    μ-loop
-    loop-holds
-    own-requires
-    put-sign-requires
-    link-requires
-    loop-less
-    loop-again
-    same-length
-    returns)
+    (tie.spec Inv-loop μ-loop loop-holds own-requires put-sign-requires link-requires loop-less loop-again same-length returns)

@@ -14,7 +14,8 @@ use Rattle.ways.proofs.way.Statement.{statement}
 use Rattle.ways.proofs.way.Tie as tie
 
 abbrev Inv-loop : tie.InvT-loop
-Inv-loop code kids span t room₀ from x₀ at₀ room x at = Row code kids span x × Covers span x t × Left room₀ from at₀ (wayAt code span t 0) room at (wayAt code span t x)
+Inv-loop code kids span t room₀ from x₀ at₀ room x at = Row code kids span x × Covers span x t × Left room₀ from at₀ (wayAt code span t 0) room at
+    (wayAt code span t x)
     × (at₀ + length (fill from at₀ (wayAt code span t 0)) ≤ length room₀)
 
 abbrev μ-loop : tie.MeasureT-loop
@@ -30,9 +31,10 @@ child-to-requires c κs = let (R, v, L, f) = c .before .loop .inv in (row-part R
 
 own-requires : tie.Need-own-requires Inv-loop μ-loop
 own-requires c κs =
-    let s = c .before .before .before .before .before .before .before .before in
-    let l = c .before .before .before .loop in
-    let test = c .before .before .loop-test in
+    let b = c .before .before in
+    let s = b .before .before .before .before .before .before in
+    let l = b .before .loop in
+    let test = b .loop-test in
     let (R, v, L, f) = l .inv in
     let (a, w) = c .before .child-to .ensures in
     let mine = (ownAt (s .args .code .now) (s .args .span .now) (s .args .t) (s .args .t) (l .x)) in
@@ -40,11 +42,13 @@ own-requires c κs =
 
 put-sign-requires : tie.Need-put-sign-requires Inv-loop μ-loop
 put-sign-requires c κs =
-    let s = c .before .before .before .before .before .before .before .before .before .before .before .before in
-    let l = c .before .before .before .before .before .before .before .loop in
-    let test = c .before .before .before .before .before .before .loop-test in
-    let child-to = c .before .before .before .before .before .child-to in
-    let own = c .before .before .before .own in
+    let b = c .before .before .before in
+    let b2 = b .before .before in
+    let s = b2 .before .before .before .before .before .before .before in
+    let l = b2 .before .before .loop in
+    let test = b2 .before .loop-test in
+    let child-to = b2 .child-to in
+    let own = b .own in
     let (R, v, L, f) = l .inv in
     let (a, w) = child-to .ensures in
     let mine = (ownAt (s .args .code .now) (s .args .span .now) (s .args .t) (s .args .t) (l .x)) in
@@ -52,43 +56,42 @@ put-sign-requires c κs =
 
 loop-less : tie.Need-loop-less Inv-loop μ-loop
 loop-less c =
-    let l = c .before .before .before .before .before .before .before .before .before .before .loop in
-    let child-to = c .before .before .before .before .before .before .before .before .child-to in
+    let b2 = c .before .before .before .before .before .before .before .before in
+    let l = b2 .before .before .loop in
+    let child-to = b2 .child-to in
     let (R, v, L, f) = l .inv in
     let (a, w) = child-to .ensures in
     let b = child-behind R a w v in omega (arith, w .from)
 
 loop-again : tie.Need-loop-again Inv-loop μ-loop
 loop-again c =
-    let s = c .before .before .before .before .before .before .before .before .before .before .before .before .before .before .before in
-    let l = c .before .before .before .before .before .before .before .before .before .before .loop in
-    let test = c .before .before .before .before .before .before .before .before .before .loop-test in
-    let child-to = c .before .before .before .before .before .before .before .before .child-to in
-    let own = c .before .before .before .before .before .before .own in
+    let b = c .before .before .before .before .before .before in
+    let b2 = b .before .before in
+    let s = b2 .before .before .before .before .before .before .before in
+    let l = b2 .before .before .loop in
+    let test = b2 .before .loop-test in
+    let child-to = b2 .child-to in
+    let own = b .own in
     let put-sign = c .before .before .put-sign in
     let (R, v, L, f) = l .inv in
     let (a, w) = child-to .ensures in
-    let mine = (ownAt (s .args .code .now) (s .args .span .now) (s .args .t) (s .args .t) (l .x)) in
-    (child-row R a w v, w, part-done mine (child ∷ []) _ (way-parts R a w v (test .taken)) L (own .ensures) (written-is (sym (fill-child (s .args .from) (own .result))) (put-sign .ensures)), f)
+    let mine = (ownAt (s .args .code .now) (s .args .span .now) (s .args .t) (s .args .t) (l .x)) in (
+      child-row R a w v,
+      w,
+      part-done mine (child ∷ []) _ (way-parts R a w v (test .taken)) L (own .ensures)
+          (written-is (sym (fill-child (s .args .from) (own .result))) (put-sign .ensures)),
+      f,
+    )
 
 same-length : tie.Need-same-length Inv-loop μ-loop
 same-length c = c .before .loop .inv .2 .same
 
 returns : tie.Need-returns Inv-loop μ-loop
-returns c = let (R, v, L, f) = c .before .loop .inv in
+returns c =
+    let (R, v, L, f) = c .before .loop .inv in
     left-end (left-is (way-nil R (c .loop-test .left)) L)
 
 pub way-spec : {M : Type 1} → statement M
 way-spec =
     tie.close
-    (tie.spec
-    Inv-loop
-    μ-loop
-    loop-holds
-    child-to-requires
-    own-requires
-    put-sign-requires
-    loop-less
-    loop-again
-    same-length
-    returns)
+    (tie.spec Inv-loop μ-loop loop-holds child-to-requires own-requires put-sign-requires loop-less loop-again same-length returns)

@@ -1,7 +1,9 @@
-//! Makes the corpus of a seed: words of all kinds in turn, those with small
-//! cases, and a part of those with large ones.
+//! Makes the corpus of a seed: what the specification tells at the limits, then
+//! words of all kinds in turn, those with small cases, and a part of those with
+//! large ones.
 
 use super::case::{number, Asked, Case, Written};
+use super::told::told;
 use super::{BEGIN, LONGEST_CASE, MOST_ROWS, WORKSPACE_BUFFER};
 use crate::generator::Generator;
 use crate::question::question;
@@ -21,10 +23,8 @@ const LARGE_TABLE: usize = 200;
 
 /// The bytes of the corpus of a seed.
 pub fn make(seed: u64) -> Vec<u8> {
-    let cases: Vec<Vec<u8>> = (0..)
-        .filter_map(|index| encoded(seed, index))
-        .take(CASES)
-        .collect();
+    let made = (0..).filter_map(|index| encoded(seed, index)).take(CASES);
+    let cases: Vec<Vec<u8>> = told().iter().map(Case::encoded).chain(made).collect();
     let longest = cases.iter().map(Vec::len).max().unwrap_or(0);
     let mut bytes = BEGIN.to_vec();
     number(cases.len(), &mut bytes);

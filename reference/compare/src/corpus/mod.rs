@@ -31,6 +31,7 @@ mod case;
 mod check;
 mod make;
 mod reader;
+mod told;
 
 pub use check::check;
 pub use make::make;

@@ -12,25 +12,35 @@ rise-requires c κs =
 
 above-requires : tie.Need-above-requires
 above-requires c κs =
-    let s = c .before .before .before .before .before .before .before .before .before .before in
-    let rise = c .before .before .before .rise in
+    let b = c .before .before .before in
+    let s = b .before .before .before .before .before .before .before in
+    let rise = b .rise in
     let (C, v, f) = s .pre in
     (climb-row C (s .args .t) (C .covers), above-fits _ _ (s .args .s) (s .args .d) _ _ (s .args .room .now) f (rise .ensures))
 
 own-requires : tie.Need-own-requires
 own-requires c κs =
-    let s = c .before .before .before .before .before .before .before .before .before .before .before .before .before .before in
-    let rise = c .before .before .before .before .before .before .before .rise in
-    let above = c .before .before .before .above in
-    let (C, v, f) = s .pre in
-    (climb-row C (s .args .t) (C .covers), met _ _ _ _ _ _ (s .args .room .now) f (rise .ensures) (above .ensures), own-fits _ _ _ _ _ _ (s .args .room .now) f (rise .ensures) (above .ensures))
+    let b = c .before .before .before in
+    let b2 = b .before .before .before .before in
+    let s = b2 .before .before .before .before .before .before .before in
+    let rise = b2 .rise in
+    let above = b .above in
+    let (C, v, f) = s .pre in (
+      climb-row C (s .args .t) (C .covers),
+      met _ _ _ _ _ _ (s .args .room .now) f (rise .ensures) (above .ensures),
+      own-fits _ _ _ _ _ _
+          (s .args .room .now) f (rise .ensures) (above .ensures),
+    )
 
 fall-requires : tie.Need-fall-requires
 fall-requires c κs =
-    let s = c .before .before .before .before .before .before .before .before .before .before .before .before .before .before .before .before .before .before in
-    let rise = c .before .before .before .before .before .before .before .before .before .before .before .rise in
-    let above = c .before .before .before .before .before .before .before .above in
-    let own = c .before .before .before .own in
+    let b = c .before .before .before in
+    let b2 = b .before .before .before .before in
+    let b3 = b2 .before .before .before .before in
+    let s = b3 .before .before .before .before .before .before .before in
+    let rise = b3 .rise in
+    let above = b2 .above in
+    let own = b .own in
     let (C, v, f) = s .pre in (
       climb-row C (s .args .t) (C .covers),
       v,
@@ -40,10 +50,13 @@ fall-requires c κs =
 
 returns : tie.Need-returns
 returns c =
-    let s = c .before .before .before .before .before .before .before .before .before .before .before .before .before .before .before .before .before .before .before .before .before in
-    let rise = c .before .before .before .before .before .before .before .before .before .before .before .before .before .before .rise in
-    let above = c .before .before .before .before .before .before .before .before .before .before .above in
-    let own = c .before .before .before .before .before .before .own in
+    let b = c .before .before .before .before .before .before in
+    let b2 = b .before .before .before .before in
+    let b3 = b2 .before .before .before .before in
+    let s = b3 .before .before .before .before .before .before .before in
+    let rise = b3 .rise in
+    let above = b2 .above in
+    let own = b .own in
     let fall = c .before .before .fall in
     form-done _ _ _ _ _ _ (s .args .room .now) (s .pre .2) (rise .ensures) (above .ensures) (own .ensures) (fall .ensures)
 

@@ -17,9 +17,10 @@ put-byte-requires c κs =
 
 returns : tie.Need-returns
 returns c =
-    let s = c .before .before .before .before .before .before .before .before .before .before .before in
-    let if1 = c .before .before .before .before .if1 in
-    let put-byte = c .before .before .put-byte in
+    let b = c .before .before in
+    let s = b .before .before .before .before .before .before .before .before .before in
+    let if1 = b .before .before .if1 in
+    let put-byte = b .put-byte in
     let e = form-empty (s .pre .0) (if1 .taken) in
     record { place = omega (arith, put-byte .ensures .0, ap length e); bytes = put-byte .ensures .1 ∙ ap (put _ _) (sym e) }
 
@@ -49,10 +50,11 @@ lowest-requires c κs =
 
 factors-requires : tie.Need-factors-requires
 factors-requires c κs =
-    let s = c .before .before .before .before .before .before .before .before .before .before .before in
-    let ne = c .before .before .before .before .if1 .left in
-    let row-of = c .before .before .before .row-of in
-    let row-of2 = c .before .before .row-of2 in
+    let b = c .before .before in
+    let s = b .before .before .before .before .before .before .before .before .before in
+    let ne = b .before .before .if1 .left in
+    let row-of = b .before .row-of in
+    let row-of2 = b .row-of2 in
     let lowest = c .before .lowest in
     let (Q, f) = s .pre in (
       record { mark = s .args .mark .now; n = s .args .n; rows = Q .rows; within = src-in Q ne (row-of .ensures); covers = lowest .ensures .to-s },
@@ -62,51 +64,54 @@ factors-requires c κs =
 
 put-byte-requires-2 : tie.Need-put-byte-requires-2
 put-byte-requires-2 c κs =
-    let s = c .before .before .before .before .before .before .before .before .before .before .before .before .before .before .before .before in
-    let ne = c .before .before .before .before .before .before .before .before .before .if1 .left in
-    let row-of = c .before .before .before .before .before .before .before .before .row-of in
-    let row-of2 = c .before .before .before .before .before .before .before .row-of2 in
-    let lowest = c .before .before .before .before .before .before .lowest in
-    let factors = c .before .before .before .before .factors in
+    let b = c .before .before .before .before in
+    let b2 = b .before .before in
+    let b3 = b2 .before .before in
+    let s = b3 .before .before .before .before .before .before .before .before in
+    let ne = b3 .before .if1 .left in
+    let row-of = b3 .row-of in
+    let row-of2 = b2 .before .row-of2 in
+    let lowest = b2 .lowest in
+    let factors = b .factors in
     let (e, k) = form-none (s .pre .0) ne (row-of .ensures) (row-of2 .ensures) (lowest .ensures) _ (factors .ensures) (c .before .if2 .taken) in
     omega (arith, s .pre .1, ap length e, ap length k)
 
 returns-2 : tie.Need-returns-2
 returns-2 c =
-    let s = c .before .before .before .before .before .before .before .before .before .before .before .before .before .before .before .before .before .before .before in
-    let ne = c .before .before .before .before .before .before .before .before .before .before .before .before .if1 .left in
-    let row-of = c .before .before .before .before .before .before .before .before .before .before .before .row-of in
-    let row-of2 = c .before .before .before .before .before .before .before .before .before .before .row-of2 in
-    let lowest = c .before .before .before .before .before .before .before .before .before .lowest in
-    let factors = c .before .before .before .before .before .before .before .factors in
-    let if2 = c .before .before .before .before .if2 in
-    let put-byte2 = c .before .before .put-byte2 in
+    let b = c .before .before in
+    let b2 = b .before .before .before .before .before in
+    let b3 = b2 .before .before in
+    let b4 = b3 .before .before in
+    let s = b4 .before .before .before .before .before .before .before .before in
+    let ne = b4 .before .if1 .left in
+    let row-of = b4 .row-of in
+    let row-of2 = b3 .before .row-of2 in
+    let lowest = b3 .lowest in
+    let factors = b2 .factors in
+    let if2 = b .before .before .if2 in
+    let put-byte2 = b .put-byte2 in
     let (e, k) = form-none (s .pre .0) ne (row-of .ensures) (row-of2 .ensures) (lowest .ensures) _ (factors .ensures) (if2 .taken) in
-    record { place = omega (arith, put-byte2 .ensures .0, ap length e); bytes = put-byte2 .ensures .1 ∙ ap (λ d. put d (s .args .at) (1 ∷ [])) k ∙ ap (put _ _) (sym e) }
+    record {
+      place = omega (arith, put-byte2 .ensures .0, ap length e);
+      bytes = put-byte2 .ensures .1 ∙ ap (λ d. put d (s .args .at) (1 ∷ [])) k
+          ∙ ap (put _ _) (sym e);
+    }
 
 returns-3 : tie.Need-returns-3
 returns-3 c =
-    let s = c .before .before .before .before .before .before .before .before .before .before .before .before .before .before .before in
-    let ne = c .before .before .before .before .before .before .before .before .if1 .left in
-    let row-of = c .before .before .before .before .before .before .before .row-of in
-    let row-of2 = c .before .before .before .before .before .before .row-of2 in
-    let lowest = c .before .before .before .before .before .lowest in
-    let factors = c .before .before .before .factors in
+    let b = c .before .before .before in
+    let b2 = b .before .before in
+    let b3 = b2 .before .before in
+    let s = b3 .before .before .before .before .before .before .before .before in
+    let ne = b3 .before .if1 .left in
+    let row-of = b3 .row-of in
+    let row-of2 = b2 .before .row-of2 in
+    let lowest = b2 .lowest in
+    let factors = b .factors in
     form-some (s .pre .0) ne (row-of .ensures) (row-of2 .ensures) (lowest .ensures) _ (factors .ensures) (c .if2 .left)
 
 pub put-form-spec : {M : Type 1} → statement M
 put-form-spec =
     tie.close
-    (tie.spec
-    put-byte-requires
-    (λ c. search needs)
-    returns
-    row-of-requires
-    row-of-requires-2
-    lowest-requires
-    factors-requires
-    put-byte-requires-2
-    (λ c. search needs)
-    returns-2
-    (λ c. search needs)
-    returns-3)
+    (tie.spec put-byte-requires (λ c. search needs) returns row-of-requires row-of-requires-2 lowest-requires factors-requires
+    put-byte-requires-2 (λ c. search needs) returns-2 (λ c. search needs) returns-3)

@@ -36,49 +36,47 @@ lowest-requires c κs =
     }
 
 rows-weight-requires : tie.Need-rows-weight-requires
-rows-weight-requires c κs = let s = c .before .before .before .before .before .before .before .before .before in record { mark = s .args .mark .now; rows = s .pre .rows }
+rows-weight-requires c κs = let s = c .before .before .before .before .before .before .before .before .before in
+    record { mark = s .args .mark .now; rows = s .pre .rows }
 
 returns-2 : tie.Need-returns-2
 returns-2 c =
-    let s = c .before .before .before .before .before .before .before .before .before .before .before in
-    let ne = c .before .before .before .before .before .if1 .left in
-    let row-of = c .before .before .before .before .row-of .ensures in
-    let row-of2 = c .before .before .before .row-of2 .ensures in
+    let b = c .before .before in
+    let b2 = b .before .before in
+    let s = b2 .before .before .before .before .before .before .before in
+    let ne = b2 .before .if1 .left in
+    let row-of = b2 .row-of .ensures in
+    let row-of2 = b .before .row-of2 .ensures in
     let weight = c .before .rows-weight .ensures in
-    omega (arith, weight, counted-above (s .pre) ne row-of row-of2 (c .before .before .lowest .ensures) (c .if2 .taken))
+    omega (arith, weight, counted-above (s .pre) ne row-of row-of2 (b .lowest .ensures) (c .if2 .taken))
 
 returns-3 : tie.Need-returns-3
 returns-3 c =
-    let s = c .before .before .before .before .before .before .before .before .before .before .before .before in
-    let ne = c .before .before .before .before .before .before .if1 .left in
-    let row-of = c .before .before .before .before .before .row-of .ensures in
-    let row-of2 = c .before .before .before .before .row-of2 .ensures in
-    let weight = c .before .before .rows-weight .ensures in
-    sym (counted-none (s .pre) ne row-of row-of2 (c .before .before .before .lowest .ensures) (c .before .if2 .left) (omega (arith, weight, c .if3 .taken)))
+    let b = c .before .before in
+    let b2 = b .before .before in
+    let s = b2 .before .before .before .before .before .before .before .before in
+    let ne = b2 .before .before .if1 .left in
+    let row-of = b2 .before .row-of .ensures in
+    let row-of2 = b2 .row-of2 .ensures in
+    let weight = b .rows-weight .ensures in
+    sym (counted-none (s .pre) ne row-of row-of2 (b .before .lowest .ensures) (c .before .if2 .left) (omega (arith, weight, c .if3 .taken)))
 
 sub-result : tie.Need-sub-result
 sub-result c = omega (arith, c .if3 .left)
 
 returns-4 : tie.Need-returns-4
 returns-4 c =
-    let s = c .before .before .before .before .before .before .before .before .before .before .before .before in
-    let ne = c .before .before .before .before .before .before .if1 .left in
-    let row-of = c .before .before .before .before .before .row-of .ensures in
-    let row-of2 = c .before .before .before .before .row-of2 .ensures in
-    let weight = c .before .before .rows-weight .ensures in
-    let some = counted-some (s .pre) ne row-of row-of2 (c .before .before .before .lowest .ensures) (c .before .if2 .left) (omega (arith, weight, c .if3 .left)) in
+    let b = c .before .before in
+    let b2 = b .before .before in
+    let s = b2 .before .before .before .before .before .before .before .before in
+    let ne = b2 .before .before .if1 .left in
+    let row-of = b2 .before .row-of .ensures in
+    let row-of2 = b2 .row-of2 .ensures in
+    let weight = b .rows-weight .ensures in
+    let some = counted-some (s .pre) ne row-of row-of2 (b .before .lowest .ensures) (c .before .if2 .left) (omega (arith, weight, c .if3 .left)) in
     omega (arith, some, weight)
 
 pub form-length-spec : {M : Type 1} → statement M
 form-length-spec =
     tie.close
-    (tie.spec
-    returns
-    row-of-requires
-    row-of-requires-2
-    lowest-requires
-    rows-weight-requires
-    returns-2
-    returns-3
-    sub-result
-    returns-4)
+    (tie.spec returns row-of-requires row-of-requires-2 lowest-requires rows-weight-requires returns-2 returns-3 sub-result returns-4)

@@ -42,9 +42,10 @@ link-requires c κs =
 
 branches-at-requires : tie.Need-branches-at-requires
 branches-at-requires c κs =
-    let s = c .before .before .before .before .before .before .before .before .before .before in
+    let b = c .before .before .before in
+    let s = b .before .before .before .before .before .before .before in
     let R = s .pre .rows in
-    let up = row-up _ _ _ _ _ _ R (s .args .u) (omega (arith, c .before .before .before .if1 .left)) (s .pre .within) .0 in
+    let up = row-up _ _ _ _ _ _ R (s .args .u) (omega (arith, b .if1 .left)) (s .pre .within) .0 in
     let e = c .link .ensures .0 in
     (omega (arith, s .pre .within, R .counts), omega (arith, s .pre .within, R .spans), omega (arith, s .pre .within, R .few))
 
@@ -53,37 +54,29 @@ add-result-2 c = omega (arith, c .before .before .before .before .before .before
 
 returns-3 : tie.Need-returns-3
 returns-3 c =
-    let label = c .before .before .before .before .before .before .label-weight .ensures in
-    let off = sym (c .before .before .before .before .on-way .ensures) ∙ c .before .before .before .if2 .left in
-    let ne = c .before .before .before .before .before .if1 .left in
+    let b = c .before .before in
+    let b2 = b .before .before in
+    let label = b2 .before .before .label-weight .ensures in
+    let off = sym (b2 .on-way .ensures) ∙ b .before .if2 .left in
+    let ne = b2 .before .if1 .left in
     let at = sym (c .before .branches-at .ensures) ∙ c .if3 .taken in
-    (ap (λ (m : ℕ). m + 3) (label .0) ∙ sym (row-branch _ _ _ _ _ _ _ ne off _ (c .before .before .link .ensures .0) at), omega (arith, label .1))
+    (ap (λ (m : ℕ). m + 3) (label .0) ∙ sym (row-branch _ _ _ _ _ _ _ ne off _ (b .link .ensures .0) at), omega (arith, label .1))
 
 add-result-3 : tie.Need-add-result-3
 add-result-3 c = omega (arith, c .before .before .before .before .before .before .label-weight .ensures .1)
 
 returns-4 : tie.Need-returns-4
 returns-4 c =
-    let label = c .before .before .before .before .before .before .label-weight .ensures in
-    let off = sym (c .before .before .before .before .on-way .ensures) ∙ c .before .before .before .if2 .left in
-    let ne = c .before .before .before .before .before .if1 .left in
+    let b = c .before .before in
+    let b2 = b .before .before in
+    let label = b2 .before .before .label-weight .ensures in
+    let off = sym (b2 .on-way .ensures) ∙ b .before .if2 .left in
+    let ne = b2 .before .if1 .left in
     let at = sym (c .before .branches-at .ensures) ∙ c .if3 .left in
-    (ap (λ (m : ℕ). m + 2) (label .0) ∙ sym (row-chain _ _ _ _ _ _ _ ne off _ (c .before .before .link .ensures .0) at), omega (arith, label .1))
+    (ap (λ (m : ℕ). m + 2) (label .0) ∙ sym (row-chain _ _ _ _ _ _ _ ne off _ (b .link .ensures .0) at), omega (arith, label .1))
 
 pub row-weight-spec : {M : Type 1} → statement M
 row-weight-spec =
     tie.close
-    (tie.spec
-    mul-label-weight
-    shared-slice-read-label-weight
-    label-weight-requires
-    returns
-    on-way-requires
-    add-result
-    returns-2
-    link-requires
-    branches-at-requires
-    add-result-2
-    returns-3
-    add-result-3
-    returns-4)
+    (tie.spec mul-label-weight shared-slice-read-label-weight label-weight-requires returns on-way-requires add-result returns-2
+    link-requires branches-at-requires add-result-2 returns-3 add-result-3 returns-4)

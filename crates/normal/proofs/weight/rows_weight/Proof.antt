@@ -68,13 +68,4 @@ returns c =
 pub rows-weight-spec : {M : Type 1} → statement M
 rows-weight-spec =
     tie.close
-    (tie.spec
-    Inv-loop
-    μ-loop
-    loop-holds
-    row-weight-requires
-    add-weight
-    add-u
-    loop-less
-    loop-again
-    returns)
+    (tie.spec Inv-loop μ-loop loop-holds row-weight-requires add-weight add-u loop-less loop-again returns)

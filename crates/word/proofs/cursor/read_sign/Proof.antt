@@ -158,21 +158,24 @@ module _ {M : Type 1} (𝓤 : URA M) (H : Heap 𝓤) (A : Atoms 𝓤) (at-mem : 
           calls-at ! fm ReadNumber known to (and-then ! (load ! (from ! (stop !)) (look ! 13 refl)) (and-then ! (load ! (from ! (stop !)) (look ! 11 refl)) (no-more !))) (λ u.
           use1 W (later (some (λ (r : Read). ((‵ (flft κ′ q′) ⊛ ‵ ftrue) ⊛ ‵ (S.the-row .own r (u ∷ []))) ⊛ raw (told r)))) (id⊢ 𝓤 _) $ await ! tt $ pick ! (λ r.
           split ! $ move ! (1 ∷ []) $ use1 W (raw (fact 𝓤 (Found r))) (said r) $ heard ! (Found r) (λ found. split ! $ move ! (1 ∷ []) $
-          -- [what was read; the word's token; the word; true; the cursor's cell; the open borrow; obs; auth; _5; …; _4; …; _3; …; _2; …; _1; …; _0; …]
+          -- [what was read; the word's token; the word; true; the cursor's cell; the open borrow; obs; auth; _5; …; _4; …; _3; …; _2; …;
+          -- _1; …; _0; …]
           read-seen ! r u (λ is. land ! (from ! (stop !)) (init ! 10 refl (read-typed 𝓤 H A W r u is)) $
           -- the second call: the place past what was read
           use0 W (raw (Past .pre (to2 r u))) (asks-nothing 𝓤 H A W r u is (h .at) fits) $
           calls-at ! fm Past known2 (to2 r u) (and-then ! (load ! (from ! (stop !)) (look ! 11 refl)) (and-then ! (load ! (from ! (stop !)) (look ! 13 refl)) (no-more !))) (λ u2.
           use1 W (later (some (λ (m : ℕ). (‵ ftrue ⊛ ‵ (usize .own m (u2 ∷ []))) ⊛ raw (told2 r m)))) (id⊢ 𝓤 _) $ await ! tt $ pick ! (λ m.
           split ! $ move ! (1 ∷ []) $ use1 W (raw (fact 𝓤 (m ≡ placePast (h .at) r))) (said2 r m) $ heard ! (m ≡ placePast (h .at) r) (λ moved. split ! $ drop ! $
-          -- [the place; what was read; the word's token; the word; true; the cursor's cell; the open borrow; obs; auth; _5; …; _4; …; _3; …; _2; …; _1; …; _0; …]
+          -- [the place; what was read; the word's token; the word; true; the cursor's cell; the open borrow; obs; auth; _5; …; _4; …; _3;
+          -- …; _2; …; _1; …; _0; …]
           peeks ! usize (Is usize) (shows 𝓤 H A usize) m (u2 ∷ []) (λ is2. land ! (from ! (stop !)) (init ! 9 refl (uint-lawful 𝓤 H A W w64 .typed m _ is2 .0)) $
           rewrite ! 9 (λ (y : Val). ‵ (fat fullShare (tyInt w64) l₅ 0 y)) (ap only (is2 .0)) refl $
           -- the place is stored, and the borrow is closed over it
           assigns ! (of-opd ! (load ! (from ! (stop !)) (look ! 9 refl)))
           (from ! (hop ! (look ! 17 refl) (fld ! refl (stop !)))) (store-in ! 5 (sub ! 0 refl (whole !)) (tt, record { fits = is2 .1 })) $
           cursor-owned ! m (is2 .1) $ move ! (6 ∷ 0 ∷ 7 ∷ 8 ∷ 9 ∷ []) $ closes ! tt T.the-row (standing m) (machine m ∷ []) b o $
-          -- [obs; the borrow; the cursor's token; the place; what was read; the word's token; the word; true; _5; …; _4; …; _3; …; _2; …; _1; …; _0; …]
+          -- [obs; the borrow; the cursor's token; the place; what was read; the word's token; the word; true; _5; …; _4; …; _3; …; _2; …;
+          -- _1; …; _0; …]
           assigns ! (of-opd ! (load ! (from ! (stop !)) (look ! 10 refl))) (from ! (stop !)) (init ! 18 refl (read-typed 𝓤 H A W r u is)) $
           returns ! (look ! 18 refl) $
           forget ! 8 refl $ forget ! 10 refl $ forget ! 12 refl $ forget ! 14 refl $ forget ! 16 refl $ forget ! 18 refl $
@@ -182,7 +185,8 @@ module _ {M : Type 1} (𝓤 : URA M) (H : Heap 𝓤) (A : Atoms 𝓤) (at-mem : 
 
 -- ------------------------------------------------------------------ from the walk to the contract
 module _ {M : Type 1} (𝓤 : URA M) (H : Heap 𝓤) (A : Atoms 𝓤) (W : Given 𝓤 H A) (mem : Memory → SProp 𝓤) (run : Routine → Fun 𝓤) where
-  walks : (C : Calls 𝓤 H) (Λ : Loops 𝓤 H) → FmC 𝓤 H (W .laws) C → Triple 𝓤 (C #read-number) (ReadNumber 𝓤 H A mem run) → Triple 𝓤 (C #past) (Past 𝓤 H A mem run)
+  walks : (C : Calls 𝓤 H) (Λ : Loops 𝓤 H) → FmC 𝓤 H (W .laws) C → Triple 𝓤 (C #read-number) (ReadNumber 𝓤 H A mem run)
+      → Triple 𝓤 (C #past) (Past 𝓤 H A mem run)
       → Walks 𝓤 H A rs.ended stayed (WpFn 𝓤 H C Λ code.function) (rs.clauses 𝓤 H A mem run)
   walks C Λ fm known known2 =
       walked 𝓤 H A rs.ended stayed (rs.clauses 𝓤 H A mem run) (WpFn 𝓤 H C Λ code.function) (λ κs. (ptr-vals, (slice-vals, tt)))

@@ -1,7 +1,8 @@
 -- `check_signs` meets its contract, by a walk through its MIR (the borrow checker covers no reference to a struct):
 --     _2 = _1.len;  _3 = start();  _4 = Cursor { 0 };  loop { _8 = _4.at;  _7 = goes_on(_3, _8, _2);  if !_7 { break };
 --     _5 = _4.at;  _9 = &mut _4;  _6 = read_sign(_9, _1);  _3 = take_read(_3, _6, _5) };  _0 = _3
--- One cursor goes through the word. In each turn it is lent for a lifetime made for the call; once that has ended the local holds it again, where `read_sign` left it.
+-- One cursor goes through the word. In each turn it is lent for a lifetime made for the call; once that has ended the local holds it again,
+-- where `read_sign` left it.
 -- A turn of the loop is walked once, from the invariant `Inside`: what stands in memory before a sign, and that the check `Stands` there (Checking).
 use mathlib.Core.Path.{_≡_, refl, sym, ap, subst, _∙_}
 use mathlib.Core.Bool.{Bool, true}
@@ -260,7 +261,8 @@ module _ {M : Type 1} (𝓤 : URA M) (H : Heap 𝓤) (A : Atoms 𝓤) (at-mem : 
             afterBlock 𝓤 H
             (afterSeq 𝓤 H (Wp 𝓤 H (𝓣 .C) (𝓣 .Λ) En code.Mir.t-5 (atReturn 𝓤 H En (Walk .post here))) (atReturn 𝓤 H En (Walk .post here)))
 
-        turns : (x : Inside (w .now)) → Seq (Go {0}) W (Inv x) (runs (𝓣 .C) (𝓣 .Λ) En code.Mir.turn-1 (anyQ (afterTurn 𝓤 H (Below 𝓤 H A (nearer (w .now)) Inv x) Left)))
+        turns : (x : Inside (w .now))
+            → Seq (Go {0}) W (Inv x) (runs (𝓣 .C) (𝓣 .Λ) En code.Mir.turn-1 (anyQ (afterTurn 𝓤 H (Below 𝓤 H A (nearer (w .now)) Inv x) Left)))
         unfolding afterTurn
         turns x =
             assigns ! (of-opd ! (load ! (from ! (fld ! refl (stop !))) (look-in ! 0 (sub ! 0 refl (whole !)))))

@@ -1,0 +1,2 @@
+mod Listing
+pub mod Children

@@ -1,0 +1,50 @@
+-- The parents of the first k nodes are flagged.
+use borrow.Author.Needs.{needs}
+use mathlib.Core.Path.{_≡_}
+use Prim.Native.Nat.{_+_, _-_, _≤_}
+use native.Mathlib.Omega.{arith}
+use lib.ListN.{getD}
+use Rattle.matching.specs.Table.{Upto, Added}
+use Rattle.matching.proofs.Flags.{upto-none, upto-more}
+use Rattle.matching.proofs.kinship.mark_eight.Statement.{statement}
+use Rattle.matching.proofs.kinship.mark_eight.Tie as tie
+
+abbrev Inv-loop : tie.InvT-loop
+Inv-loop first parents has₀ k₀ has k = (k ≤ 8) × Added has₀ (Upto (λ j v. getD parents (first + j) 0 ≡ v) k) has
+
+abbrev μ-loop : tie.MeasureT-loop
+μ-loop first parents has₀ k₀ has k = 8 - k
+
+loop-holds : tie.Need-loop-holds Inv-loop μ-loop
+loop-holds c = (omega arith, upto-none (λ j v. getD (c .before .before .args .parents .now) (c .before .before .args .first + j) 0 ≡ v) _)
+
+add-mark-node : tie.Need-add-mark-node Inv-loop μ-loop
+add-mark-node c =
+    let s = c .before .before .before .before in
+    omega (arith, s .pre .0 .few, s .pre .2)
+
+mark-node-requires : tie.Need-mark-node-requires Inv-loop μ-loop
+mark-node-requires c κs =
+    let s = c .before .before .before .before .before in
+    (s .pre .0, omega (arith, c .before .before .loop .inv .1 .same, s .pre .1), omega (arith, s .pre .2, c .before .loop-test .taken))
+
+loop-again : tie.Need-loop-again Inv-loop μ-loop
+loop-again c =
+    let l = c .before .before .before .before .before in
+    let s = l .before .before .before in (
+      omega arith,
+      upto-more (λ j v. getD (s .args .parents .now) (s .args .first + j) 0 ≡ v) _ _ _ _ (l .loop .inv .1)
+          (c .before .before .mark-node .ensures),
+    )
+
+same-length : tie.Need-same-length Inv-loop μ-loop
+same-length c = c .before .loop .inv .1 .same
+
+returns : tie.Need-returns Inv-loop μ-loop
+returns c = let z : c .before .loop .k ≡ 8 = omega arith in rw z at (c .before .loop .inv .1)
+
+pub mark-eight-spec : {M : Type 1} → statement M
+mark-eight-spec =
+    tie.close
+    (tie.spec Inv-loop μ-loop loop-holds add-mark-node mark-node-requires (λ c. search needs) (λ c. search needs) loop-again same-length
+    returns)

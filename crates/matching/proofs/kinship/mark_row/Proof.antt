@@ -1,0 +1,98 @@
+-- The parents of the nodes below 8i are flagged.
+use borrow.Author.Needs.{needs}
+use mathlib.Core.Path.{_≡_, refl, _∙_}
+use mathlib.Core.List.{List}
+use Prim.Native.Nat.{ℕ, _+_, _*_, _-_, _≤_, _<_}
+use native.Mathlib.Omega.{arith}
+use lib.ListN.{length, getD}
+use Rattle.matching.specs.Table.{ParentOf, Added}
+use Rattle.matching.proofs.Flags.{byte-inside, first-inside, added-first, added-byte, added-row}
+use Rattle.matching.proofs.kinship.mark_row.Statement.{statement}
+use Rattle.matching.proofs.kinship.mark_row.Tie as tie
+
+abbrev Inv-loop : tie.InvT-loop
+Inv-loop w c parents has₀ at bytes b i₀ has i = (1 ≤ i) × (i ≤ bytes) × (length has ≡ length has₀)
+    × ((h : List ℕ) → Added h (ParentOf w c parents (8 * 1)) has₀ → Added h (ParentOf w c parents (8 * i)) has)
+
+abbrev μ-loop : tie.MeasureT-loop
+μ-loop w c parents has₀ at bytes b i₀ has i = bytes - i
+
+shared-slice-read-b : tie.Need-shared-slice-read-b Inv-loop μ-loop
+shared-slice-read-b c =
+    let s = c .before .before .before .before in
+    omega (arith, s .pre .2, s .pre .3)
+
+mark-parents-requires : tie.Need-mark-parents-requires Inv-loop μ-loop
+mark-parents-requires c κs =
+    let b = c .before .before .before .before in
+    let s = b .before in
+    let lb : getD (s .args .w .now) (128 * s .args .c) 0 < 256 = omega (arith, b .shared-slice-known .given (128 * s .args .c)) in
+    (s .pre .0, s .pre .1, omega arith, first-inside _ _ (s .args .parents .now) (s .pre .4) lb)
+
+loop-holds : tie.Need-loop-holds Inv-loop μ-loop
+loop-holds c = (omega arith, omega (arith, c .before .before .before .before .before .before .before .before .pre .0 .some), refl, λ h a. a)
+
+add-mark-byte : tie.Need-add-mark-byte Inv-loop μ-loop
+add-mark-byte c =
+    let s = c .before .before .before .before .before .before .before .before .before .before in
+    omega (arith, s .pre .0 .few, s .pre .2, c .before .loop .inv .1)
+
+shared-slice-read-mark-byte : tie.Need-shared-slice-read-mark-byte Inv-loop μ-loop
+shared-slice-read-mark-byte c =
+    let s = c .before .before .before .before .before .before .before .before .before .before .before in
+    omega (arith, s .pre .0 .few, s .pre .3, c .before .before .loop .inv .1)
+
+mul-mark-byte : tie.Need-mul-mark-byte Inv-loop μ-loop
+mul-mark-byte c = omega (
+  arith,
+  c .before .before .before .before .before .before .before .before .before .before .before .pre .0 .few,
+  c .before .before .loop .inv .1,
+)
+
+mark-byte-requires : tie.Need-mark-byte-requires Inv-loop μ-loop
+mark-byte-requires c κs =
+    let l = c .before .before .before in
+    let b = l .before .before .before in
+    let b2 = b .before .before .before .before .before in
+    let s = b2 .before in
+    let lb : getD (s .args .w .now) (128 * s .args .c + l .loop .i) 0 < 256 = omega
+    (arith, b2 .shared-slice-known .given (128 * s .args .c + l .loop .i)) in (
+      s .pre .0,
+      omega (arith, s .pre .1, b .mark-parents .ensures .same, l .loop .inv .2),
+      omega (arith, s .pre .0 .few, l .loop .inv .1),
+      byte-inside _ _ (s .args .parents .now) (s .pre .4) (l .loop .i) (omega (arith, s .pre .0 .few, l .loop .inv .1)) lb,
+    )
+
+loop-again : tie.Need-loop-again Inv-loop μ-loop
+loop-again c =
+    let b = c .before .before in
+    let l = b .before .before .before .before in
+    let b2 = l .before .before .before .before .before .before .before .before in
+    let s = b2 .before in
+    let lb : getD (s .args .w .now) (128 * s .args .c + l .loop .i) 0 < 256 = omega
+    (arith, b2 .shared-slice-known .given (128 * s .args .c + l .loop .i)) in (
+      omega arith,
+      omega arith,
+      b .mark-byte .ensures .same ∙ l .loop .inv .2,
+      λ h a. added-byte _ _ (s .args .parents .now) (s .pre .4) _ _ _
+          (l .loop .i) (l .loop .inv .0) lb (l .loop .inv .3 h a) (b .mark-byte .ensures),
+    )
+
+same-length : tie.Need-same-length Inv-loop μ-loop
+same-length c = c .before .loop .inv .2 ∙ c .before .before .before .before .mark-parents .ensures .same
+
+returns : tie.Need-returns Inv-loop μ-loop
+returns c =
+    let l = c .before in
+    let b = l .before .before .before in
+    let b2 = b .before .before .before .before .before in
+    let s = b2 .before in
+    let lb : getD (s .args .w .now) (128 * s .args .c) 0 < 256 = omega (arith, b2 .shared-slice-known .given (128 * s .args .c)) in
+    added-row _ _ (s .args .parents .now) (s .pre .4) _ _ (l .loop .i) (omega arith) (omega (arith, s .pre .0 .few, l .loop .inv .1))
+    (l .loop .inv .3 _ (added-first _ _ (s .args .parents .now) (s .pre .4) _ _ lb (b .mark-parents .ensures)))
+
+pub mark-row-spec : {M : Type 1} → statement M
+mark-row-spec =
+    tie.close
+    (tie.spec Inv-loop μ-loop (λ c. search needs) (λ c. search needs) shared-slice-read-b mark-parents-requires loop-holds add-mark-byte
+    shared-slice-read-mark-byte mul-mark-byte mark-byte-requires (λ c. search needs) (λ c. search needs) loop-again same-length returns)

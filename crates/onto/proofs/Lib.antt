@@ -1,0 +1,3 @@
+pub mod Brothers
+pub mod Left
+pub mod Onto

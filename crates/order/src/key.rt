@@ -1,0 +1,53 @@
+// One key a row stands for the first three numbers of its record: two brothers are compared without writing their records out.
+ghost use mathlib.Core.Path.{_≡_};
+ghost use Prim.Native.Nat.{_+_, _<_};
+ghost use lib.ListN.{length, getD};
+ghost use Rattle.order.specs.Keys.{written, keyOf};
+
+// The bytes of x, filled up to three, as one number: it compares as the bytes do, where x itself would not (128 is written 80 01, 255 is FF 01, and
+// 256 is 80 02).
+fn bytes_of(x: u64) -> u64
+    requires { ⌜ x < 2097152 ⌝ }
+    ensures { λ r. ⌜ (r ≡ written x) × (r < 16777216) ⌝ }
+{
+    if x < 128 {
+        return 65536 * x;
+    }
+    let a = 65536 * (128 + x % 128);
+    if x < 16384 {
+        return a + 256 * (x / 128);
+    }
+    a + 256 * (128 + x / 128 % 128) + x / 16384
+}
+
+// A label code among numbers of 64 bits.
+fn wide(x: u32) -> u64
+    ensures { λ r. ⌜ r ≡ x ⌝ }
+{
+    x as u64
+}
+
+// A mark among numbers of 64 bits.
+fn wide8(x: u8) -> u64
+    ensures { λ r. ⌜ (r ≡ x) × (r < 256) ⌝ }
+{
+    x as u64
+}
+
+// The key of a row with label code l, mark m and c children: each as its bytes, and a mark is one byte.
+pub fn key_of(l: u32, m: u8, c: usize) -> u64
+    requires { ⌜ (l < 2097152) × (c < 2097152) ⌝ }
+    ensures { λ r. ⌜ r ≡ keyOf l m c ⌝ }
+{
+    let a = bytes_of(wide(l));
+    let b = wide8(m);
+    (a * 256 + b) * 16777216 + bytes_of(c as u64)
+}
+
+// The key of row i.
+pub fn key_at(t: &[u64], i: usize) -> u64
+    requires { ⌜ i < length (now t) ⌝ }
+    ensures { λ r. ⌜ r ≡ getD (now (t .entry)) i 0 ⌝ }
+{
+    t[i]
+}

@@ -1,0 +1,3 @@
+mod Climbing
+mod Selecting
+mod Pair
