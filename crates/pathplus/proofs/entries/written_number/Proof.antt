@@ -1,18 +1,17 @@
+-- By cases on the answer.
 use mathlib.Core.Path.{_≡_, sym, subst}
 use native.Mathlib.Omega.{arith}
-use Rattle.pathplus.specs.Answer.{writtenOf, numberOf, Short}
+use Rattle.forms.specs.Form.{writtenOf}
+use Rattle.pathplus.specs.Answer.{numberOf, Short}
 use borrow.Author.Needs.{needs}
-use Rattle.pathplus.proofs.written_number.Statement.{statement}
-use Rattle.pathplus.proofs.written_number.Tie as tie
-use Rattle.pathplus.proofs.written_number.Reads as reads
-use Rattle.pathplus.proofs.written_number.Lts as lts
-use Rattle.pathplus.proofs.packed.Reads as packed-reads
+use Rattle.pathplus.proofs.entries.written_number.Statement.{statement}
+use Rattle.pathplus.proofs.entries.written_number.Tie as tie
 
 packed-requires : tie.Need-packed-requires
-packed-requires c κs = (omega arith, subst (λ a. Short (writtenOf a)) (c .before .answer .given .1) (c .before .before .before .pre))
+packed-requires c κs = subst (λ a. Short (writtenOf a)) (c .before .answer .given .1) (c .before .before .before .pre)
 
 packed-requires-2 : tie.Need-packed-requires-2
-packed-requires-2 c κs = subst (λ a. Short (writtenOf a)) (c .before .answer2 .given .1) (c .before .before .before .pre)
+packed-requires-2 c κs = subst (λ a. Short (writtenOf a)) (c .before .answer2 .given .1) (c .before .before .before .pre) .1
 
 returns : tie.Need-returns
 returns c = subst (λ a. c .packed .result ≡ numberOf (writtenOf a)) (sym (c .before .before .answer .given .1)) (omega (arith, c .packed .ensures))

@@ -1,21 +1,18 @@
+-- The word's own refusals, or the question.
 use mathlib.Core.Path.{sym, ap, _∙_}
 use Rattle.word.specs.Answer.{checkedOf}
-use Rattle.pathplus.proofs.Asking.{selects-refused}
 use Rattle.word.proofs.Accepted.{accepted-word}
+use Rattle.pathplus.proofs.Asking.{selects-refused}
 use Rattle.pathplus.proofs.OfRows.{word-refused}
 use borrow.Author.Needs.{needs}
-use Rattle.pathplus.proofs.selects.Statement.{statement}
-use Rattle.pathplus.proofs.selects.Tie as tie
-use Rattle.pathplus.proofs.selects.Reads as reads
-use Rattle.pathplus.proofs.selects.Lts as lts
-use Rattle.pathplus.proofs.ask.Reads as ask-reads
-use Rattle.word.proofs.whole.check_word.Reads as check-word-reads
+use Rattle.pathplus.proofs.question.selects.Statement.{statement}
+use Rattle.pathplus.proofs.question.selects.Tie as tie
 
 ask-requires : tie.Need-ask-requires
 ask-requires c κs = accepted-word _ (sym (ap checkedOf (c .before .enum-told .given .1)) ∙ c .before .before .before .check-word .ensures)
 
 returns : tie.Need-returns
-returns c = selects-refused _ _ _ (word-refused _ _ _ (sym (ap checkedOf (c .before .number .given .1)) ∙ c .before .before .before .check-word .ensures))
+returns c = selects-refused _ (word-refused _ (c .before .number .given .1) (c .before .before .before .check-word .ensures))
 
 pub selects-spec : {M : Type 1} → statement M
 selects-spec =
