@@ -7,12 +7,6 @@ ghost use lib.ListN.{length};
 ghost use Rattle.meaning.specs.Number.{num};
 ghost use Rattle.groups.specs.Put.{put};
 
-// "The caller's room together with the number of bytes already filled."
-pub struct Writer<'a> {
-    pub room: &'a mut [u8],
-    pub length: usize,
-}
-
 // How many bytes a number takes.
 pub fn number_length(x: u32) -> usize
     ensures { λ r. ⌜ r ≡ length (num x) ⌝ }

@@ -1,13 +1,11 @@
 // The image of rows in image order: "First the number of nodes", then one pass over the rows. A node's record begins with its three numbers and
 // goes on with its children's records, and these are the rows that follow.
 // The length is a function of its own: a room that is too short is refused before its first byte is written.
-use groups::Writer;
 ghost use mathlib.Core.Path.{_≡_};
 ghost use Prim.Native.Nat.{_+_, _≤_};
 ghost use lib.ListN.{length};
 ghost use Rattle.groups.specs.Put.{put, Written};
-ghost use Rattle.groups.specs.Filled.{filled};
-ghost use Rattle.image.specs.Listing.{head, listing};
+ghost use Rattle.image.specs.Listing.{head, listing, Listed};
 
 // How many bytes the head of a record takes.
 fn head_length(code: u32, mark: u8, kids: u16) -> usize
@@ -31,7 +29,7 @@ fn put_head(room: &mut [u8], at: usize, code: u32, mark: u8, kids: u16) -> usize
 
 // How many bytes the image of n rows has.
 pub fn image_length(code: &[u32], mark: &[u8], kids: &[u16], n: usize) -> usize
-    requires { ⌜ (n ≤ 256) × (n ≤ length (now code)) × (n ≤ length (now mark)) × (n ≤ length (now kids)) ⌝ }
+    requires { ⌜ Listed (now code) (now mark) (now kids) n ⌝ }
     ensures { λ r. ⌜ r ≡ length (listing (now (code .entry)) (now (mark .entry)) (now (kids .entry)) n) ⌝ }
 {
     let mut bytes = groups::number_length(n as u32);
@@ -42,35 +40,24 @@ pub fn image_length(code: &[u32], mark: &[u8], kids: &[u16], n: usize) -> usize
 }
 
 // The image of n rows, written from place `at` on; of no rows it is the one byte 0.
-fn put_image(room: &mut [u8], at: usize, code: &[u32], mark: &[u8], kids: &[u16], n: usize) -> usize
-    requires { ⌜ (n ≤ 256) × (n ≤ length (now code)) × (n ≤ length (now mark)) × (n ≤ length (now kids)) × (at + length (listing (now code) (now mark) (now kids) n) ≤ length (now room)) ⌝ }
-    ensures { λ r. ⌜ Written (now (room .entry)) at (listing (now (code .entry)) (now (mark .entry)) (now (kids .entry)) n) (now (room .exit)) r ⌝ }
+pub fn put_image(
+    room: &mut [u8],
+    at: usize,
+    code: &[u32],
+    mark: &[u8],
+    kids: &[u16],
+    n: usize,
+) -> usize
+    requires { ⌜
+        Listed (now code) (now mark) (now kids) n
+        × (at + length (listing (now code) (now mark) (now kids) n) ≤ length (now room)) ⌝ }
+    ensures { λ r. ⌜
+        Written (now (room .entry)) at
+        (listing (now (code .entry)) (now (mark .entry)) (now (kids .entry)) n) (now (room .exit)) r ⌝ }
 {
     let mut place = groups::put_number(room, at, n as u32);
     for u in 0..n {
         place = put_head(room, place, code[u], mark[u], kids[u]);
     }
     place
-}
-
-// The image of n rows, written behind what the writer has.
-fn image_on<'s, 'a>(w: &'s mut Writer<'a>, code: &[u32], mark: &[u8], kids: &[u16], n: usize)
-    requires { ⌜ (n ≤ 256) × (n ≤ length (now code)) × (n ≤ length (now mark)) × (n ≤ length (now kids)) × (now w .length + length (listing (now code) (now mark) (now kids) n) ≤ length (now (now w .room))) ⌝ }
-    ensures { λ _. ⌜ now (w .exit) ≡ filled (now (w .entry)) (listing (now (code .entry)) (now (mark .entry)) (now (kids .entry)) n) ⌝ }
-{
-    let at = w.length;
-    let end = put_image(&mut *w.room, at, code, mark, kids, n);
-    w.length = end;
-}
-
-// The image of n rows, written into the front of the room.
-pub fn write_image(code: &[u32], mark: &[u8], kids: &[u16], n: usize, room: &mut [u8]) -> usize
-    requires { ⌜ (n ≤ 256) × (n ≤ length (now code)) × (n ≤ length (now mark)) × (n ≤ length (now kids)) ⌝ }
-    requires { ⌜ length (listing (now code) (now mark) (now kids) n) ≤ length (now room) ⌝ }
-    ensures { λ r. ⌜ r ≡ length (listing (now (code .entry)) (now (mark .entry)) (now (kids .entry)) n) ⌝ }
-    ensures { λ _. ⌜ now (room .exit) ≡ put (now (room .entry)) 0 (listing (now (code .entry)) (now (mark .entry)) (now (kids .entry)) n) ⌝ }
-{
-    let mut w = Writer { room, length: 0 };
-    image_on(&mut w, code, mark, kids, n);
-    w.length
 }

@@ -1,56 +1,81 @@
--- What the rows of an accepted word's tree give: its images, its normal form, and what the pair question asks of them.
+-- What the rows of a form of an accepted word give: the form's bytes, and what the writer and the pair question ask of them.
 use mathlib.Core.Path.{_≡_, refl, sym, ap, subst, _∙_}
+use mathlib.Core.Bool.{Bool, true, false, cond}
 use mathlib.Core.Option.{Option, none, some}
 use mathlib.Core.List.{List}
-use Prim.Native.Nat.{ℕ, _≤_, _<_}
+use Prim.Native.Nat.{ℕ, _<_}
 use native.Mathlib.Omega.{arith}
 use Rattle.meaning.specs.Expression.{Expr, pairs}
-use Rattle.meaning.specs.TreeQuery.{Query}
+use Rattle.meaning.specs.TreeQuery.{Query, TreeQuery}
 use Rattle.meaning.specs.Gluing.{plain}
-use Rattle.meaning.specs.Tree.{Forest, bare, Tag, size}
+use Rattle.meaning.specs.Tree.{treeOf, plainTree, size}
+use Rattle.meaning.specs.Image.{ordered, minimalTree}
 use Rattle.meaning.specs.Folding.{minimal}
-use Rattle.meaning.specs.Image.{image, ordered, minimalTree}
-use Rattle.meaning.specs.Normal.{normal, wordOf, normalForm}
-use Rattle.meaning.specs.Word.{Outcome, refused, answered, andThen, readWord}
-use Rattle.theory.proofs.Plain.{Means, plain-means}
-use Rattle.theory.proofs.Count.{count, src, dst}
-use Rattle.theory.proofs.Same.{least-tree}
-use Rattle.theory.proofs.Marks.{QueryTree}
-use Rattle.rows.specs.Rows.{Rows, treeRows}
-use Rattle.rows.proofs.Rows.{size-rows}
-use Rattle.image.specs.Listing.{listing}
-use Rattle.image.proofs.Image.{image-rows}
-use Rattle.normal.specs.Ways.{QueryRows}
-use Rattle.word.specs.Answer.{verdict}
-use Rattle.tree.specs.Trees.{Accepted, RowsOf, MinimalRows}
+use Rattle.meaning.specs.Word.{Outcome, refused, answered, readWord}
 use Rattle.theory.proofs.Look.{never}
+use Rattle.theory.proofs.Marks.{QueryTree, query-tree, ordered-query-tree}
+use Rattle.theory.proofs.Plain.{Means, plain-means}
+use Rattle.theory.proofs.Same.{least-tree}
+use Rattle.rows.specs.Rows.{treeRows}
+use Rattle.rows.proofs.Rows.{size-rows}
+use Rattle.normal.specs.Forms.{QueryRows}
+use Rattle.word.specs.Answer.{checkedOf, verdict}
+use Rattle.word.specs.declared.whole.Checked.{Checked}
+use Rattle.word.specs.declared.whole.Checked.the-variants as Checked
+use Rattle.query.specs.Trees.{Accepted, RowsOf, PlainRows, MinimalRows}
+use Rattle.forms.specs.declared.Form.{Form}
+use Rattle.forms.specs.declared.Form.the-variants.{Plain, Minimal, Normal}
+use Rattle.forms.specs.Form.{formOf, isPlain, formTree, bytesOf}
+use Rattle.forms.proofs.Forms.{form-rows}
 
-pub word-refused : (word : List ℕ) (n p : ℕ) → refused n p ≡ verdict (readWord word) → readWord word ≡ refused n p
-word-refused word n p v = go (readWord word) refl v
+-- a word that is told to be refused is refused so
+pub word-refused : (word : List ℕ) {checked : Checked} {n p : ℕ} → checked ≡ Checked.Refused n p → checkedOf checked ≡ verdict (readWord word)
+    → readWord word ≡ refused n p
+word-refused word {n = n} {p = p} q v = go (readWord word) refl (sym (ap checkedOf q) ∙ v)
   where
     go : (o : Outcome Expr) → readWord word ≡ o → refused n p ≡ verdict o → readWord word ≡ refused n p
     go (refused n′ p′) r e = r ∙ (let a : n′ ≡ n = cc in let b : p′ ≡ p = cc in λ i. refused (a i) (b i))
     go (answered f) r e = never cc
 
--- the rows of a tree in image order list its image
-pub image-listed : (g : Expr → Forest Tag) (word code mark kids span up : List ℕ) (n : ℕ) → RowsOf (λ e. ordered (g e)) word code mark kids span up n
-    → (e : Expr) → readWord word ≡ answered e → listing code mark kids n ≡ image (g e)
-image-listed g word code mark kids span up n R e r = image-rows code mark kids span up n (R .rows) (g e) (R .tree e r)
+-- the tree of a tree query's form has one top, one s and one d
+form-tree : (form : Form) (Q : Query) → TreeQuery Q → QueryTree (formTree form (some Q))
+form-tree Plain Q v = ordered-query-tree (treeOf Q) (query-tree Q v)
+form-tree Minimal Q v = least-tree Q v
+form-tree Normal Q v = least-tree Q v
 
-module _ (word code mark kids span up : List ℕ) (n : ℕ) (R : MinimalRows word code mark kids span up n) (acc : Accepted word) where
-  pub normal-written : (e : Expr) → readWord word ≡ answered e → wordOf (normal (treeRows code mark span n)) ≡ normalForm (plain e)
-  normal-written e r = ap (λ f. wordOf (normal f)) (R .tree e r)
+-- the plain tree's rows are those of the one form, the minimal tree's those of the others
+module _ (form : Form) {word code mark kids span up : List ℕ} {n : ℕ} where
+  rows-as : {b : Bool} → isPlain form ≡ b → RowsOf (λ e. cond b (ordered (plainTree (plain e))) (minimalTree (plain e))) word code mark kids span up n
+      → RowsOf (λ e. formTree form (plain e)) word code mark kids span up n
+  rows-as q = subst (λ b. RowsOf (λ e. cond b (ordered (plainTree (plain e))) (minimalTree (plain e))) word code mark kids span up n) (sym q)
 
-  -- where there are rows they are a tree query's tree, with one top, one s and one d
-  pub query-tree : 0 < n → QueryTree (treeRows code mark span n)
+  pub rows-plain : isPlain form ≡ true → PlainRows word code mark kids span up n → RowsOf (λ e. formTree form (plain e)) word code mark kids span up n
+  rows-plain q R = rows-as q R
+
+  pub rows-minimal : isPlain form ≡ false → MinimalRows word code mark kids span up n → RowsOf (λ e. formTree form (plain e)) word code mark kids span up n
+  rows-minimal q R = rows-as q R
+
+module _ (form : Form) {word code mark kids span up : List ℕ} {n : ℕ} (R : RowsOf (λ e. formTree form (plain e)) word code mark kids span up n)
+    (acc : Accepted word) where
+  pub form-written : bytesOf form code mark kids span n ≡ formOf form (plain (acc .0))
+  form-written = form-rows form (plain (acc .0)) (R .rows) (R .tree (acc .0) (acc .1))
+
+  -- where there are rows they are a tree query's tree
+  rows-tree : 0 < n → QueryTree (treeRows code mark span n)
   unfolding minimal
-  query-tree pos = subst QueryTree (sym (R .tree (acc .0) (acc .1))) (go (plain (acc .0)) refl (plain-means (acc .0)))
+  rows-tree pos = subst QueryTree (sym (R .tree (acc .0) (acc .1))) (go (plain (acc .0)) refl (plain-means (acc .0)))
     where
-      go : (o : Option Query) → plain (acc .0) ≡ o → Means (pairs (acc .0)) o → QueryTree (minimalTree (plain (acc .0)))
+      empty : (form : Form) → size (formTree form none) ≡ 0
+      empty Plain = refl
+      empty Minimal = refl
+      empty Normal = refl
+
+      go : (o : Option Query) → plain (acc .0) ≡ o → Means (pairs (acc .0)) o → QueryTree (formTree form (plain (acc .0)))
       go none e w =
           let z = size-rows span n (R .rows .laid) code mark in
-          let y : size (treeRows code mark span n) ≡ 0 = ap size (R .tree (acc .0) (acc .1) ∙ ap minimalTree e) in absurd (omega arith)
-      go (some Q) e (v, w) = subst (λ o. QueryTree (minimalTree o)) (sym e) (least-tree Q v)
+          let y : size (treeRows code mark span n) ≡ 0 = ap size (R .tree (acc .0) (acc .1) ∙ ap (formTree form) e) ∙ empty form in
+          absurd (omega arith)
+      go (some Q) e (v, w) = subst (λ o. QueryTree (formTree form o)) (sym e) (form-tree form Q v)
 
   pub query-rows : QueryRows code mark kids span up n
-  query-rows = record { rows = R .rows; one-src = λ pos. query-tree pos .source; one-dst = λ pos. query-tree pos .dest }
+  query-rows = record { rows = R .rows; one-src = λ pos. rows-tree pos .source; one-dst = λ pos. rows-tree pos .dest }

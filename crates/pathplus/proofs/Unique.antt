@@ -1,29 +1,21 @@
 -- "That no second answer fits is itself a proved statement", for each public call and the answers that it gives.
 use mathlib.Core.Path.{_≡_, refl, sym, ap, _∙_}
-use mathlib.Core.Bool.{true, false}
 use mathlib.Core.Option.{Option}
 use mathlib.Core.List.{List}
 use Prim.Native.Nat.{ℕ}
-use native.Mathlib.Omega.{arith}
 use Rattle.meaning.specs.TreeQuery.{Query}
-use Rattle.meaning.specs.Word.{Outcome, refused, answered}
 use Rattle.meaning.specs.Promise.{Writes, Question, Selected, PlainImage, MinimalImage, NormalForm}
 use Rattle.theory.proofs.Once.{Bytes}
 use Rattle.theory.proofs.Promise.{one-writing, one-reply}
 use Rattle.theory.proofs.Look.{never}
-use Rattle.pathplus.specs.declared.Written.{Written}
-use Rattle.pathplus.specs.declared.Written.the-variants as Written
+use Rattle.forms.specs.declared.Written.{Written}
+use Rattle.forms.specs.Form.{writtenOf}
+use Rattle.forms.proofs.Unique.{written-same}
 use Rattle.pathplus.specs.declared.Told.{Told}
 use Rattle.pathplus.specs.declared.Told.the-variants as Told
-use Rattle.pathplus.specs.Answer.{writtenOf, toldOf, numberOf, yesOf, WritesC, SelectedC}
+use Rattle.pathplus.specs.Answer.{toldOf, numberOf, yesOf, WritesC, SelectedC}
 
--- ------------------------------------------------------------------ an answer is what it stands for
-written-same : (r r′ : Written) → writtenOf r ≡ writtenOf r′ → r ≡ r′
-written-same (Written.Done k) (Written.Done k′) e = let q : k ≡ k′ = cc in λ i. Written.Done (q i)
-written-same (Written.Done k) (Written.Refused n p) e = never cc
-written-same (Written.Refused n p) (Written.Done k) e = never cc
-written-same (Written.Refused n p) (Written.Refused n′ p′) e = let a : n ≡ n′ = cc in let b : p ≡ p′ = cc in λ i. Written.Refused (a i) (b i)
-
+-- an answer is what it stands for
 told-same : (r r′ : Told) → toldOf r ≡ toldOf r′ → r ≡ r′
 told-same Told.Yes Told.Yes e = refl
 told-same Told.Yes Told.No e = never cc
@@ -35,8 +27,9 @@ told-same (Told.Refused n p) Told.Yes e = never cc
 told-same (Told.Refused n p) Told.No e = never cc
 told-same (Told.Refused n p) (Told.Refused n′ p′) e = let a : n ≡ n′ = cc in let b : p ≡ p′ = cc in λ i. Told.Refused (a i) (b i)
 
--- ------------------------------------------------------------------ the four calls
-writer-unique : (form : Option Query → List ℕ) (word room : List ℕ) (r r′ : Written) (a a′ : List ℕ)
+-- ------------------------------------------------------------------ the calls
+-- the form of a word
+pub writer-unique : (form : Option Query → List ℕ) (word room : List ℕ) (r r′ : Written) (a a′ : List ℕ)
     → Writes form word room (writtenOf r) a → Writes form word room (writtenOf r′) a′ → (r ≡ r′) × (a ≡ a′)
 writer-unique form word room r r′ a a′ w w′ =
     let u = one-writing form word room (writtenOf r) (writtenOf r′) a a′ w w′ in (written-same r r′ (u .0), u .1)

@@ -1,21 +1,14 @@
--- What each answer of the public calls stands for: 01's number and values for each case, and the numbers that C is given.
+-- What each answer of the public calls stands for: 01's number and values for each case, and the numbers that C is given. A writer's stands in forms.
 use mathlib.Core.Path.{_≡_}
 use mathlib.Core.Bool.{Bool, true, false}
 use mathlib.Core.List.{List}
 use mathlib.Core.Option.{Option}
-use Prim.Native.Nat.{ℕ, _+_, _*_, _≤_}
+use Prim.Native.Nat.{ℕ, _+_, _*_, _<_}
 use Rattle.meaning.specs.TreeQuery.{Query}
 use Rattle.meaning.specs.Word.{Outcome, refused, answered}
-use Rattle.meaning.specs.Promise.{fitting, lengthOf, roomAfter, Writes, Question, Selected}
-use Rattle.pathplus.specs.declared.Written.{Written}
-use Rattle.pathplus.specs.declared.Written.the-variants as Written
+use Rattle.meaning.specs.Promise.{Writes, Question, Selected}
 use Rattle.pathplus.specs.declared.Told.{Told}
 use Rattle.pathplus.specs.declared.Told.the-variants as Told
-
--- a writer: the length written, or a refusal
-abbrev pub writtenOf : Written → Outcome ℕ
-writtenOf (Written.Done length) = answered length
-writtenOf (Written.Refused number place) = refused number place
 
 -- the pair question: yes or no, or a refusal
 abbrev pub toldOf : Told → Outcome Bool
@@ -23,19 +16,17 @@ toldOf Told.Yes = answered true
 toldOf Told.No = answered false
 toldOf (Told.Refused number place) = refused number place
 
--- the bytes stand in the front of the room, or are refused with 7 where they do not fit
-pub record Fitted (bytes room : List ℕ) (result : Outcome ℕ) (after : List ℕ) : Type 0 where
-  pub returned : result ≡ lengthOf (fitting room bytes)
-  pub left : after ≡ roomAfter room (fitting room bytes)
-
 -- what the pair question is handed
 abbrev pub question : List ℕ → List ℕ → List ℕ → ℕ → ℕ → List ℕ → Question
 question word parents labels m n workspace = record { word = word; parents = parents; labels = labels; m = m; n = n; workspace = workspace }
 
 -- ------------------------------------------------------------------ what C is given
 -- "the upper 32 bits are the refusal number, 0 where the call is answered; the lower 32 bits are the place, or the length written, or 1 for yes and 0 for no"
+abbrev pub upper : ℕ
+upper = 4294967296
+
 abbrev pub numberOf : Outcome ℕ → ℕ
-numberOf (refused number place) = number * 4294967296 + place
+numberOf (refused number place) = number * upper + place
 numberOf (answered value) = value
 
 abbrev pub yesOf : Outcome Bool → Outcome ℕ
@@ -43,10 +34,10 @@ yesOf (refused number place) = refused number place
 yesOf (answered true) = answered 1
 yesOf (answered false) = answered 0
 
--- a refusal with a small number and place, or a small answer: they fit into the 32 bits each
+-- the number and the place, or the answer, fit into the 32 bits each
 abbrev pub Short : Outcome ℕ → Type 0
-Short (refused number place) = (number ≤ 10) × (place ≤ 32768)
-Short (answered value) = value ≤ 32768
+Short (refused number place) = (number < upper) × (place < upper)
+Short (answered value) = value < upper
 
 -- the promises over the number that C is given
 abbrev pub WritesC : (Option Query → List ℕ) → List ℕ → List ℕ → ℕ → List ℕ → Type 0

@@ -11,37 +11,32 @@ use Rattle.meaning.specs.Gluing.{plain}
 use Rattle.meaning.specs.Word.{answered, readWord}
 use Rattle.meaning.specs.Promise.{written, lengthOf, roomAfter, Writes}
 use Rattle.meaning.specs.Program.{line, plainName, minimalName, normalName, refusalLine, reported, programText}
-use Rattle.theory.proofs.Index.{images-short, form-accepted}
 use Rattle.word.specs.Answer.{checkedOf, verdict}
 use Rattle.word.specs.declared.whole.Checked.{Checked}
 use Rattle.word.specs.declared.whole.Checked.the-variants as Checked
 use Rattle.groups.specs.Put.{Written}
 use Rattle.groups.proofs.Put.{written-is, written-then}
-use Rattle.pathplus.specs.Answer.{writtenOf}
-use Rattle.pathplus.specs.declared.Written as Pathplus
-use Rattle.pathplus.specs.declared.Written.the-variants.{Done, Refused}
+use Rattle.forms.specs.declared.Form.{Form}
+use Rattle.forms.specs.declared.Form.the-variants.{Plain, Minimal, Normal}
+use Rattle.forms.specs.declared.Written as Answer
+use Rattle.forms.specs.declared.Written.the-variants.{Done, Refused}
+use Rattle.forms.specs.Form.{formOf, writtenOf}
+use Rattle.forms.proofs.Forms.{form-short}
 use Rattle.pathplus.proofs.OfRows.{word-refused}
 use Rattle.theory.proofs.Look.{never}
-use Rattle.report.specs.declared.Form.{Form}
-use Rattle.report.specs.declared.Form.the-variants.{Plain, Minimal, Normal}
-use Rattle.report.specs.Form.{formOf, ofRead, formBytes}
+use Rattle.report.specs.Form.{ofRead, formBytes}
 
 -- "A refusal is one line"
 pub refused-text : (word : List ℕ) {checked : Checked} {n p : ℕ} → checked ≡ Checked.Refused n p → checkedOf checked ≡ verdict (readWord word)
     → programText word ≡ refusalLine n p
 unfolding programText
-refused-text word {n = n} {p = p} q v = ap reported (word-refused word n p (sym (ap checkedOf q) ∙ v))
+refused-text word q v = ap reported (word-refused word q v)
 
 -- an accepted word
 module _ (word : List ℕ) (e : Expr) (r : readWord word ≡ answered e) where
   form-bytes : (form : Form) → formBytes form word ≡ formOf form (plain e)
   unfolding formBytes
   form-bytes form = ap (ofRead form) r
-
-  form-short : (form : Form) → length (formOf form (plain e)) ≤ 2048
-  form-short Plain = omega (arith, images-short word e r .0)
-  form-short Minimal = omega (arith, images-short word e r .1)
-  form-short Normal = form-accepted word e r .0
 
   -- "plain image, minimal image, normal form"
   three-lines : programText word
@@ -62,9 +57,9 @@ module _ (word : List ℕ) (e : Expr) (r : readWord word ≡ answered e) where
   -- a room of 2,048 bytes is enough
   form-fits : (form : Form) (room : List ℕ) → 2048 ≤ length room → written (formOf form) word room ≡ answered (formOf form (plain e))
   unfolding written
-  form-fits form room le = rw (r, le-ltb (length room) (length (formOf form (plain e))) (omega (arith, form-short form)))
+  form-fits form room le = rw (r, le-ltb (length room) (length (formOf form (plain e))) (omega (arith, form-short form word e r)))
 
-  module _ (form : Form) {room after : List ℕ} {w : Pathplus.Written} where
+  module _ (form : Form) {room after : List ℕ} {w : Answer.Written} where
     pub form-not-refused : {n p : ℕ} → w ≡ Refused n p → Writes (formOf form) word room (writtenOf w) after → 2048 ≤ length room → ⊥
     form-not-refused q W le = never (cc (W .returned, ap lengthOf (form-fits form room le), ap writtenOf q))
 
@@ -75,6 +70,6 @@ module _ (word : List ℕ) (e : Expr) (r : readWord word ≡ answered e) where
         let bytes = formOf form (plain e) in
         let f = form-fits form room le in
         let z : k ≡ length bytes = cc (W .returned, ap lengthOf f, ap writtenOf q) in (
-          omega (arith, form-short form),
+          omega (arith, form-short form word e r),
           ap (take k) (W .left ∙ ap (roomAfter room) f) ∙ take-at bytes (drop (length bytes) room) k (sym z) ∙ sym (form-bytes form),
         )

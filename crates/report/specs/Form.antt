@@ -1,21 +1,11 @@
--- The three forms of a word that the program writes.
+-- The bytes of a form of a word, as the program writes them.
 use mathlib.Core.List.{List, []}
-use mathlib.Core.Option.{Option}
 use Prim.Native.Nat.{ℕ}
 use Rattle.meaning.specs.Expression.{Expr}
-use Rattle.meaning.specs.TreeQuery.{Query}
 use Rattle.meaning.specs.Gluing.{plain}
-use Rattle.meaning.specs.Image.{plainImage, minimalImage}
-use Rattle.meaning.specs.Normal.{normalForm}
 use Rattle.meaning.specs.Word.{Outcome, refused, answered, readWord}
-use Rattle.report.specs.declared.Form.{Form}
-use Rattle.report.specs.declared.Form.the-variants.{Plain, Minimal, Normal}
-
--- "plain image, minimal image, normal form"
-abbrev pub formOf : Form → Option Query → List ℕ
-formOf Plain = plainImage
-formOf Minimal = minimalImage
-formOf Normal = normalForm
+use Rattle.forms.specs.declared.Form.{Form}
+use Rattle.forms.specs.Form.{formOf}
 
 -- the form of what was read; a refused word has none
 abbrev pub ofRead : Form → Outcome Expr → List ℕ

@@ -1,0 +1,5 @@
+mod Lent
+mod Beside
+mod Fitting
+pub mod Forms
+pub mod Unique

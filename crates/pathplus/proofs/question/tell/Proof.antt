@@ -1,0 +1,37 @@
+-- What the rows take is what the word selects.
+use Rattle.forms.specs.declared.Form.the-variants.{Minimal}
+use Rattle.pathplus.proofs.Asking.{selects-told}
+use Rattle.pathplus.proofs.OfRows.{query-rows}
+use borrow.Author.Needs.{needs}
+use Rattle.pathplus.proofs.question.tell.Statement.{statement}
+use Rattle.pathplus.proofs.question.tell.Tie as tie
+
+taken-requires : tie.Need-taken-requires
+taken-requires c κs =
+    let (acc, N) = c .before .before .before .before .before .before .before .before .before .before .before .before .before .before .before .pre in
+    (record { kids = _; query = query-rows Minimal (c .before .before .before .before .before .minimal-rows .ensures) acc }, N)
+
+returns : tie.Need-returns
+returns c =
+    let (acc, N) = c .before .before .before .before .before .before .before .before .before .before .before .before .before .before .before .before .before .before .before .pre in
+    selects-told _ (acc .1) N (c .before .before .before .before .before .before .before .before .before .minimal-rows .ensures .tree (acc .0) (acc .1)) (rw (c .if1 .taken) at (c .before .before .before .taken .ensures))
+
+returns-2 : tie.Need-returns-2
+returns-2 c =
+    let (acc, N) = c .before .before .before .before .before .before .before .before .before .before .before .before .before .before .before .before .before .before .before .pre in
+    selects-told _ (acc .1) N (c .before .before .before .before .before .before .before .before .before .minimal-rows .ensures .tree (acc .0) (acc .1)) (rw (c .if1 .left) at (c .before .before .before .taken .ensures))
+
+pub tell-spec : {M : Type 1} → statement M
+tell-spec =
+    tie.close
+    (tie.spec
+    (λ c κs. search needs)
+    (λ c. search needs)
+    (λ c. search needs)
+    (λ c. search needs)
+    (λ c. search needs)
+    taken-requires
+    (λ c. search needs)
+    returns
+    (λ c. search needs)
+    returns-2)

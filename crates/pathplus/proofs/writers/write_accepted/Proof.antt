@@ -1,0 +1,29 @@
+-- The rows are a tree query's, and their bytes are the form.
+use Rattle.forms.specs.Form.{formOf}
+use Rattle.pathplus.proofs.Writing.{writes-fitted}
+use Rattle.pathplus.proofs.OfRows.{form-written, query-rows}
+use borrow.Author.Needs.{needs}
+use Rattle.pathplus.proofs.writers.write_accepted.Statement.{statement}
+use Rattle.pathplus.proofs.writers.write_accepted.Tie as tie
+
+fit-requires : tie.Need-fit-requires
+fit-requires c κs = let s = c .before .before .before .before .before .before .before .before .before .before .before .before .before .before in query-rows (s .args .form) (c .before .before .before .before .before .before .form-rows .ensures) (s .pre)
+
+returns : tie.Need-returns
+returns c =
+    let s = c .before .before .before .before .before .before .before .before .before .before .before .before .before .before .before .before .before in
+    writes-fitted (formOf (s .args .form)) (s .pre .1) (rw (form-written (s .args .form) (c .before .before .before .before .before .before .before .before .before .form-rows .ensures) (s .pre)) at (c .before .before .fit .ensures))
+
+pub write-accepted-spec : {M : Type 1} → statement M
+write-accepted-spec =
+    tie.close
+    (tie.spec
+    (λ c κs. search needs)
+    (λ c. search needs)
+    (λ c. search needs)
+    (λ c. search needs)
+    (λ c. search needs)
+    (λ c. search needs)
+    fit-requires
+    (λ c. search needs)
+    returns)
