@@ -21,7 +21,7 @@ use Rattle.word.proofs.Accepted.{accepted-start, accepted-end, accepted-number,
 use Rattle.glue.specs.declared.trees.Built.{Built}
 use Rattle.glue.specs.Rows.{poolRows}
 use Rattle.glue.specs.Trees.{builtOf, builtFrom}
-use Rattle.pool.specs.Pool.{Pool, pool, built, operandAt, stack, Holds, HoldsNone, HoldsOnly, Passes, Applies}
+use Rattle.pool.specs.Pool.{Pool, pool, built, operandAt, stack, PoolFor, PoolForNone, PoolForOnly, Passes, Applies}
 use Rattle.pool.proofs.Operands.{stack-count}
 
 -- at place `at` the n operands of the pool are those that are pending
@@ -30,7 +30,7 @@ pub record Reading (w : List ℕ) (p : Pool) (n at : ℕ) : Type 0 where
   pub word : readWord w ≡ answered e
   pub st : Pending
   pub rest : runFrom w at st ≡ answered e
-  pub holds : Holds p n st
+  pub holds : PoolFor p n st
 
 -- a number that was read is no broken one, and one alone
 pub number-broken : {sign next : ℕ} → Number sign next ≡ Broken → ⊥
@@ -42,7 +42,7 @@ number-same e = cc
 -- before the first sign
 pub holds-start : (P L F S D : List ℕ)
     → (poolRows ≤ length P) × (poolRows ≤ length L) × (mostPending < length F) × (mostPending ≤ length S) × (mostPending ≤ length D)
-    → HoldsNone (pool P L (set F 0 0) S D)
+    → PoolForNone (pool P L (set F 0 0) S D)
 unfolding stack
 holds-start P L F S D (lp, ll, lf, ls, ld) = record {
   order = record {
@@ -64,7 +64,7 @@ holds-start P L F S D (lp, ll, lf, ls, ld) = record {
     start : getD (set F 0 0) 0 0 ≡ 0
     start = getD-set-same F 0 0 0 (omega arith)
 
-pub reading-start : (w : List ℕ) (p : Pool) → ((e : Expr) × (readWord w ≡ answered e)) × HoldsNone p → Reading w p 0 0
+pub reading-start : (w : List ℕ) (p : Pool) → ((e : Expr) × (readWord w ≡ answered e)) × PoolForNone p → Reading w p 0 0
 reading-start w p ((e, q), h) = record { e = e; word = q; st = nothingPending; rest = accepted-start w q; holds = h }
 
 module _ (w : List ℕ) (p : Pool) (n at : ℕ) (d : Reading w p n at) where
@@ -81,20 +81,20 @@ module _ (w : List ℕ) (p : Pool) (n at : ℕ) (d : Reading w p n at) where
       (record { e = d .e; word = d .word; st = st′; rest = rest; holds = f sign next refl (d .st) st′ at (d .holds) t }, number .moved)
   reading-next lt Broken g p′ n′ f = absurd (accepted-number w at (d .st) (d .rest) lt (sym g))
 
-  pub reading-last : length w ≤ at → (e : Expr) × (readWord w ≡ answered e) × HoldsOnly p e
+  pub reading-last : length w ≤ at → (e : Expr) × (readWord w ≡ answered e) × PoolForOnly p e
   reading-last le =
       let only = accepted-end w at (d .st) (d .rest) le in
       let l = stack-count p n (d .st .operands) (d .holds .queries) in
       let z = ap length only in
-      (d .e, d .word, (d .st, only, subst (λ k. Holds p k (d .st)) (let one : n ≡ 1 = omega arith in one) (d .holds)))
+      (d .e, d .word, (d .st, only, subst (λ k. PoolFor p k (d .st)) (let one : n ≡ 1 = omega arith in one) (d .holds)))
 
 -- after the last
-pub last-fits : (p : Pool) (e : Expr) → HoldsOnly p e → (0 + 1 < length (p .first)) × (0 < length (p .s)) × (0 < length (p .d))
+pub last-fits : (p : Pool) (e : Expr) → PoolForOnly p e → (0 + 1 < length (p .first)) × (0 < length (p .s)) × (0 < length (p .d))
     × (getD (p .first) 0 0 ≤ getD (p .first) (0 + 1) 0)
 last-fits p e (st, only, h) = let o = h .order in
     (omega (arith, o .firsts), omega (arith, o .marksS), omega (arith, o .marksD), o .up 0 (omega arith))
 
-pub reading-end : (w : List ℕ) (p : Pool) → (e : Expr) × (readWord w ≡ answered e) × HoldsOnly p e → (r : Built) → r ≡ built p 0
+pub reading-end : (w : List ℕ) (p : Pool) → (e : Expr) × (readWord w ≡ answered e) × PoolForOnly p e → (r : Built) → r ≡ built p 0
     → andThen (readWord w) (λ e. answered (plain e)) ≡ answered (builtOf r (p .parent) (p .label))
 unfolding stack operandAt
 reading-end w p (e, word, (st, only, h)) r er =

@@ -14,7 +14,7 @@ use Rattle.meaning.specs.Word.{refused, answered, operand, unary, binary, signO
 use Rattle.theory.proofs.Look.{never}
 use Rattle.glue.specs.Rows.{poolRows}
 use Rattle.pool.specs.declared.operand.Latest.{Latest}
-use Rattle.pool.specs.Pool.{Pool, pool, operandAt, stack, InOrder, Trees, allSteps, Holds, Passes}
+use Rattle.pool.specs.Pool.{Pool, pool, operandAt, stack, InOrder, Trees, allSteps, PoolFor, Passes}
 use Rattle.pool.specs.Latest.{Made, Gives, PutFits}
 use Rattle.pool.proofs.Signs.{operand-means, unary-means, binary-means}
 use Rattle.pool.proofs.Operands.{stack-top, stack-count, plain-tree, trees-of, rows-most, used, order-below, put-stack, put-order}
@@ -68,7 +68,7 @@ module _ (p : Pool) (n v : ℕ) (e : Expr) (es : signOf v ≡ operand e) where
       )
 
   pub operand-gives : (l : Latest) (P′ L′ : List ℕ) → Made n (getD (p .first) n 0) (p .parent) (p .label) l P′ L′ (plain e)
-      → (st st′ : Pending) (at : ℕ) → Holds p n st → takes v st at ≡ answered st′ → Gives p l P′ L′ st′
+      → (st st′ : Pending) (at : ℕ) → PoolFor p n st → takes v st at ≡ answered st′ → Gives p l P′ L′ st′
   operand-gives l P′ L′ made st st′ at h t =
       let w = pushes st st′ at t in
       let c = stack-count p n (st .operands) (h .queries) in
@@ -103,7 +103,7 @@ module _ (p : Pool) (n v : ℕ) (f : Expr → Expr) (es : signOf v ≡ unary f) 
       go (x ∷ xs) b w = record { latest = x; rest = xs; before = b; operands = cc; count = cc }
 
   -- the latest operand, and those below it
-  under : (st st′ : Pending) → Holds p n st → (w : Changes f st st′)
+  under : (st st′ : Pending) → PoolFor p n st → (w : Changes f st st′)
       → (1 ≤ n) × (operandAt p (n - 1) ≡ plain (w .latest)) × (stack p (n - 1) ≡ map plain (w .rest))
   under st st′ h w =
       let c = stack-count p n (st .operands) (h .queries) in
@@ -122,7 +122,7 @@ module _ (p : Pool) (n v : ℕ) (f : Expr → Expr) (es : signOf v ≡ unary f) 
 
   pub unary-gives : (l : Latest)
       → ((e : Expr) → operandAt p (n - 1) ≡ plain e → Made (n - 1) (getD (p .first) (n - 1) 0) (p .parent) (p .label) l (p .parent) (p .label) (plain (f e)))
-      → (st st′ : Pending) (at : ℕ) → Holds p n st → takes v st at ≡ answered st′ → Gives p l (p .parent) (p .label) st′
+      → (st st′ : Pending) (at : ℕ) → PoolFor p n st → takes v st at ≡ answered st′ → Gives p l (p .parent) (p .label) st′
   unary-gives l made st st′ at h t =
       let w = changes st st′ at t in
       let (pos, here, below) = under st st′ h w in
@@ -160,7 +160,7 @@ module _ (p : Pool) (n v : ℕ) (f : Expr → Expr → Expr) (es : signOf v ≡ 
       go (x ∷ []) b w = never cc
       go (x ∷ (y ∷ xs)) b w = record { latest = x; earlier = y; rest = xs; before = b; operands = cc; count = cc }
 
-  under-two : (st st′ : Pending) → Holds p n st → (w : Joins f st st′)
+  under-two : (st st′ : Pending) → PoolFor p n st → (w : Joins f st st′)
       → (2 ≤ n) × (operandAt p (n - 2) ≡ plain (w .earlier)) × (operandAt p (n - 1) ≡ plain (w .latest)) × (stack p (n - 2) ≡ map plain (w .rest))
   under-two st st′ h w =
       let c = stack-count p n (st .operands) (h .queries) in
@@ -177,7 +177,7 @@ module _ (p : Pool) (n v : ℕ) (f : Expr → Expr → Expr) (es : signOf v ≡ 
   pub binary-gives : (l : Latest) (P′ L′ : List ℕ)
       → ((e g : Expr) → operandAt p (n - 2) ≡ plain e → operandAt p (n - 1) ≡ plain g
       → Made (n - 2) (getD (p .first) (n - 2) 0) (p .parent) (p .label) l P′ L′ (plain (f e g)))
-      → (st st′ : Pending) (at : ℕ) → Holds p n st → takes v st at ≡ answered st′ → Gives p l P′ L′ st′
+      → (st st′ : Pending) (at : ℕ) → PoolFor p n st → takes v st at ≡ answered st′ → Gives p l P′ L′ st′
   binary-gives l P′ L′ made st st′ at h t =
       let w = joins st st′ at t in
       let (pos, first, second, below) = under-two st st′ h w in
@@ -209,7 +209,7 @@ module _ (p : Pool) (l : Latest) (P′ L′ : List ℕ) (st : Pending) (g : Give
 
   pub gives-holds : length P′ ≡ length (p .parent) → length L′ ≡ length (p .label) → (F′ S′ D′ : List ℕ) (n′ : ℕ) → n′ ≡ l .at + 1
       → F′ ≡ set (p .first) (l .at + 1) (getD (p .first) (l .at) 0 + l .rows) → S′ ≡ set (p .s) (l .at) (l .s % 65536) → D′ ≡ set (p .d) (l .at) (l .d % 65536)
-      → Holds (pool P′ L′ F′ S′ D′) n′ st
+      → PoolFor (pool P′ L′ F′ S′ D′) n′ st
   gives-holds lp ll F′ S′ D′ n′ en ef es ed =
       let k = g .place in
       let t = plain-tree (g .latest) in

@@ -14,7 +14,7 @@ use Rattle.rows.specs.Table.{ifRows}
 use Rattle.glue.specs.Rows.{poolRows}
 use Rattle.glue.specs.Trees.{builtFrom}
 use Rattle.pool.specs.declared.operand.Latest.{Latest}
-use Rattle.pool.specs.Pool.{Pool, stack, InOrder, allSteps, Holds}
+use Rattle.pool.specs.Pool.{Pool, stack, InOrder, allSteps, PoolFor}
 
 -- the operand l, in the rows from a on
 abbrev pub latestAt : ℕ → Latest → List ℕ → List ℕ → Option Query
@@ -45,7 +45,7 @@ pub record Gives (p : Pool) (l : Latest) (P′ L′ : List ℕ) (st : Pending) :
   pub few : st .steps ≤ mostSteps
 
 abbrev pub Makes : Pool → ℕ → ℕ → Latest → List ℕ → List ℕ → Type 0
-Makes p n sign l P′ L′ = (st st′ : Pending) (at : ℕ) → Holds p n st → takes sign st at ≡ answered st′ → Gives p l P′ L′ st′
+Makes p n sign l P′ L′ = (st st′ : Pending) (at : ℕ) → PoolFor p n st → takes sign st at ≡ answered st′ → Gives p l P′ L′ st′
 
 -- there is room for l in the pool
 abbrev pub PutFits : Latest → List ℕ → List ℕ → List ℕ → Type 0

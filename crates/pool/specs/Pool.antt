@@ -59,7 +59,7 @@ allSteps [] = 0
 allSteps (e ∷ es) = steps e + allSteps es
 
 -- the pool holds the plain tree queries of the operands that are pending in the word
-pub record Holds (p : Pool) (n : ℕ) (st : Pending) : Type 0 where
+pub record PoolFor (p : Pool) (n : ℕ) (st : Pending) : Type 0 where
   pub order : InOrder p n
   pub queries : stack p n ≡ map plain (st .operands)
   pub count : allSteps (st .operands) ≡ st .steps
@@ -67,15 +67,15 @@ pub record Holds (p : Pool) (n : ℕ) (st : Pending) : Type 0 where
 
 -- a sign that the word's check lets pass
 abbrev pub Passes : Pool → ℕ → ℕ → Type 0
-Passes p n sign = (st : Pending) × (st′ : Pending) × (at : ℕ) × Holds p n st × (takes sign st at ≡ answered st′)
+Passes p n sign = (st : Pending) × (st′ : Pending) × (at : ℕ) × PoolFor p n st × (takes sign st at ≡ answered st′)
 
 -- before the first sign, and after the last sign of an accepted word
-abbrev pub HoldsNone : Pool → Type 0
-HoldsNone p = Holds p 0 (record { operands = []; steps = 0 })
+abbrev pub PoolForNone : Pool → Type 0
+PoolForNone p = PoolFor p 0 (record { operands = []; steps = 0 })
 
-abbrev pub HoldsOnly : Pool → Expr → Type 0
-HoldsOnly p e = (st : Pending) × (st .operands ≡ e ∷ []) × Holds p 1 st
+abbrev pub PoolForOnly : Pool → Expr → Type 0
+PoolForOnly p e = (st : Pending) × (st .operands ≡ e ∷ []) × PoolFor p 1 st
 
 -- one sign: the pool p, which held the pending operands before it, is p′ after it
 abbrev pub Applies : Pool → ℕ → ℕ → Pool → ℕ → Type 0
-Applies p n sign p′ n′ = (st st′ : Pending) (at : ℕ) → Holds p n st → takes sign st at ≡ answered st′ → Holds p′ n′ st′
+Applies p n sign p′ n′ = (st st′ : Pending) (at : ℕ) → PoolFor p n st → takes sign st at ≡ answered st′ → PoolFor p′ n′ st′

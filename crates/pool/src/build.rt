@@ -16,7 +16,7 @@ ghost use Rattle.meaning.specs.Word.{answered, andThen, readWord};
 ghost use Rattle.word.specs.declared.number.Read.the-variants.{Number};
 ghost use Rattle.glue.specs.Rows.{poolRows};
 ghost use Rattle.glue.specs.Trees.{builtOf};
-ghost use Rattle.pool.specs.Pool.{pool, Passes, Applies, HoldsNone, HoldsOnly};
+ghost use Rattle.pool.specs.Pool.{pool, Passes, Applies, PoolForNone, PoolForOnly};
 
 // The rows of the pool.
 pub const POOL_ROWS: usize = 512;
@@ -53,9 +53,9 @@ fn apply_signs(
     s: &mut [u16],
     d: &mut [u16],
 )
-    requires { ⌜ ((e : Expr) × (readWord (now word) ≡ answered e)) × HoldsNone (pool (now parent) (now label) (now first) (now s) (now d)) ⌝ }
+    requires { ⌜ ((e : Expr) × (readWord (now word) ≡ answered e)) × PoolForNone (pool (now parent) (now label) (now first) (now s) (now d)) ⌝ }
     ensures { λ _. ⌜ ((e : Expr) × (readWord (now (word .entry)) ≡ answered e)
-        × HoldsOnly (pool (now (parent .exit)) (now (label .exit)) (now (first .exit)) (now (s .exit)) (now (d .exit))) e) ⌝ }
+        × PoolForOnly (pool (now (parent .exit)) (now (label .exit)) (now (first .exit)) (now (s .exit)) (now (d .exit))) e) ⌝ }
 {
     let end = word.len();
     let mut cursor = Cursor { at: 0 };

@@ -65,7 +65,7 @@ use Rattle.word.proofs.cursor.read_sign as rs
 use Rattle.word.proofs.cursor.read_sign.Symbol as rs-def
 use Rattle.word.proofs.cursor.read_sign.Symbol.{name as #read-sign}
 use Rattle.word.proofs.cursor.read_sign.Met as rs-thm
-use Rattle.pool.specs.Pool.{Pool, pool, HoldsNone, HoldsOnly, Passes, Applies}
+use Rattle.pool.specs.Pool.{Pool, pool, PoolForNone, PoolForOnly, Passes, Applies}
 use Rattle.pool.proofs.Reading.{Reading, reading-start, reading-passes, reading-next, reading-last}
 use Rattle.pool.proofs.Lent.{Piece, owned, tokens, Names, lentAll, kept, AsLong, Fits, lends-all, all-back}
 use Rattle.pool.proofs.build.apply_read as ar
@@ -252,7 +252,7 @@ module _ {M : Type 1} (𝓤 : URA M) (H : Heap 𝓤) (A : Atoms 𝓤) (W : Given
   left p = (‵ (flft κ q) ⊛ ‵ ftrue) ∷ ‵ Word ∷ tokens 𝓤 (slices p) ∷ ‵ (owned (slices p) ftrue) ∷ []
 
   abbrev Ended : Pool → Type 0
-  Ended p = (e : Expr) × (readWord (now w) ≡ answered e) × HoldsOnly p e
+  Ended p = (e : Expr) × (readWord (now w) ≡ answered e) × PoolForOnly p e
 
   exits : (p : Pool) → AsLong (slices p₀) (lists p) → Ended p → ent 𝓤 (⋆ 𝓤 H A (left p)) (Walk .post here vunit)
   exits p long ended =
@@ -404,7 +404,7 @@ module _ {M : Type 1} (𝓤 : URA M) (H : Heap 𝓤) (A : Atoms 𝓤) (W : Given
 
     -- the body up to the loop
     abbrev Begins : Type 0
-    Begins = ((e : Expr) × (readWord (now w) ≡ answered e)) × HoldsNone p₀
+    Begins = ((e : Expr) × (readWord (now w) ≡ answered e)) × PoolForNone p₀
 
     walk : ent 𝓤 (sep 𝓤 (onEntry 𝓤 H A this.signature (κ, κs) (q, qs) (w, (x₁, (x₂, (x₃, (x₄, (x₅, tt)))))) (v ∷ [], (v₁ ∷ [], (v₂ ∷ [], (v₃ ∷ [], (v₄ ∷ [], (v₅ ∷ [], tt))))))) (fact 𝓤 Begins))
         (WpFn 𝓤 H (𝓣 .C) (𝓣 .Λ) code.function (v ∷ v₁ ∷ v₂ ∷ v₃ ∷ v₄ ∷ v₅ ∷ []) (Walk .post here))
