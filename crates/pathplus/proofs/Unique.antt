@@ -47,7 +47,8 @@ pub normal-form-unique : (word room : List ℕ) (r r′ : Written) (a a′ : Lis
 normal-form-unique = writer-unique _
 
 -- the workspace holds bytes, before and after
-pub selects-unique : (q : Question) (r r′ : Told) (a a′ : List ℕ) → Bytes a → Bytes a′ → Selected q (toldOf r) a → Selected q (toldOf r′) a′ → (r ≡ r′) × (a ≡ a′)
+pub selects-unique : (q : Question) (r r′ : Told) (a a′ : List ℕ) → Bytes a → Bytes a′ → Selected q (toldOf r) a → Selected q (toldOf r′) a′
+    → (r ≡ r′) × (a ≡ a′)
 selects-unique q r r′ a a′ b b′ s s′ = let u = one-reply q (toldOf r) (toldOf r′) a a′ b b′ s s′ in (told-same r r′ (u .0), u .1)
 
 -- ------------------------------------------------------------------ the numbers that C is given
@@ -56,6 +57,7 @@ pub writes-c-unique : (form : Option Query → List ℕ) (word room : List ℕ) 
 writes-c-unique form word room r r′ a a′ (o, e, s, w) (o′, e′, s′, w′) =
     let u = one-writing form word room o o′ a a′ w w′ in (e ∙ ap numberOf (u .0) ∙ sym e′, u .1)
 
-pub selects-c-unique : (q : Question) (r r′ : ℕ) (a a′ : List ℕ) → Bytes a → Bytes a′ → SelectedC q r a → SelectedC q r′ a′ → (r ≡ r′) × (a ≡ a′)
+pub selects-c-unique : (q : Question) (r r′ : ℕ) (a a′ : List ℕ) → Bytes a → Bytes a′ → SelectedC q r a → SelectedC q r′ a′
+    → (r ≡ r′) × (a ≡ a′)
 selects-c-unique q r r′ a a′ b b′ (o, e, s, w) (o′, e′, s′, w′) =
     let u = one-reply q o o′ a a′ b b′ w w′ in (e ∙ ap (λ x. numberOf (yesOf x)) (u .0) ∙ sym e′, u .1)

@@ -10,13 +10,17 @@ returns : tie.Need-returns
 returns c = selects-table _ (c .before .before .before .before .before .before .pre .1) (sym (c .before .good-table .ensures) ∙ not-true _ (c .if1 .taken))
 
 returns-2 : tie.Need-returns-2
-returns-2 c = selects-no-m _ (c .before .before .before .before .before .before .before .pre .1) (sym (c .before .before .good-table .ensures) ∙ not-false _ (c .before .if1 .left)) (c .if2 .taken)
+returns-2 c = let good = sym (c .before .before .good-table .ensures) ∙ not-false _ (c .before .if1 .left) in
+    selects-no-m _ (c .before .before .before .before .before .before .before .pre .1) good (c .if2 .taken)
 
 returns-3 : tie.Need-returns-3
-returns-3 c = selects-no-n _ (c .before .before .before .before .before .before .before .before .pre .1) (sym (c .before .before .before .good-table .ensures) ∙ not-false _ (c .before .before .if1 .left)) (c .before .if2 .left) (c .if3 .taken)
+returns-3 c = let good = sym (c .before .before .before .good-table .ensures) ∙ not-false _ (c .before .before .if1 .left) in
+    selects-no-n _ (c .before .before .before .before .before .before .before .before .pre .1) good (c .before .if2 .left) (c .if3 .taken)
 
 returns-4 : tie.Need-returns-4
-returns-4 c = selects-short _ (c .before .before .before .before .before .before .before .before .before .pre .1) (sym (c .before .before .before .before .good-table .ensures) ∙ not-false _ (c .before .before .before .if1 .left)) (c .before .before .if2 .left) (c .before .if3 .left) (c .if4 .taken)
+returns-4 c = let good = sym (c .before .before .before .before .good-table .ensures) ∙ not-false _ (c .before .before .before .if1 .left) in
+    selects-short _ (c .before .before .before .before .before .before .before .before .before .pre .1) good
+    (c .before .before .if2 .left) (c .before .if3 .left) (c .if4 .taken)
 
 tell-requires : tie.Need-tell-requires
 tell-requires c κs = (

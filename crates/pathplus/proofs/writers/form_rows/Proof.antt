@@ -6,10 +6,14 @@ use Rattle.pathplus.proofs.writers.form_rows.Statement.{statement}
 use Rattle.pathplus.proofs.writers.form_rows.Tie as tie
 
 returns : tie.Need-returns
-returns c = rows-plain (c .before .before .before .before .before .before .before .before .before .args .form) (sym (c .before .before .before .before .before .before .before .is-plain .ensures) ∙ c .before .before .before .before .before .before .if1 .taken) (c .plain-rows .ensures)
+returns c =
+    let t = c .before .before .before .before .before .before in
+    rows-plain (t .before .before .before .args .form) (sym (t .before .is-plain .ensures) ∙ t .if1 .taken) (c .plain-rows .ensures)
 
 returns-2 : tie.Need-returns-2
-returns-2 c = rows-minimal (c .before .before .before .before .before .before .before .before .before .args .form) (sym (c .before .before .before .before .before .before .before .is-plain .ensures) ∙ c .before .before .before .before .before .before .if1 .left) (c .minimal-rows .ensures)
+returns-2 c =
+    let t = c .before .before .before .before .before .before in
+    rows-minimal (t .before .before .before .args .form) (sym (t .before .is-plain .ensures) ∙ t .if1 .left) (c .minimal-rows .ensures)
 
 pub form-rows-spec : {M : Type 1} → statement M
 form-rows-spec =

@@ -7,12 +7,17 @@ use Rattle.pathplus.proofs.writers.write_accepted.Statement.{statement}
 use Rattle.pathplus.proofs.writers.write_accepted.Tie as tie
 
 fit-requires : tie.Need-fit-requires
-fit-requires c κs = let s = c .before .before .before .before .before .before .before .before .before .before .before .before .before .before in query-rows (s .args .form) (c .before .before .before .before .before .before .form-rows .ensures) (s .pre)
+fit-requires c κs =
+    let r = c .before .before .before .before .before .before in
+    let s = r .before .before .before .before .before .before .before .before in
+    query-rows (s .args .form) (r .form-rows .ensures) (s .pre)
 
 returns : tie.Need-returns
 returns c =
-    let s = c .before .before .before .before .before .before .before .before .before .before .before .before .before .before .before .before .before in
-    writes-fitted (formOf (s .args .form)) (s .pre .1) (rw (form-written (s .args .form) (c .before .before .before .before .before .before .before .before .before .form-rows .ensures) (s .pre)) at (c .before .before .fit .ensures))
+    let r = c .before .before .before .before .before .before .before .before .before in
+    let s = r .before .before .before .before .before .before .before .before in
+    let bytes = form-written (s .args .form) (r .form-rows .ensures) (s .pre) in
+    writes-fitted (formOf (s .args .form)) (s .pre .1) (rw bytes at (c .before .before .fit .ensures))
 
 pub write-accepted-spec : {M : Type 1} → statement M
 write-accepted-spec =

@@ -13,7 +13,9 @@ write-accepted-requires : tie.Need-write-accepted-requires
 write-accepted-requires c κs = accepted-word _ (sym (ap checkedOf (c .before .enum-told .given .1)) ∙ c .before .before .before .check-word .ensures)
 
 returns : tie.Need-returns
-returns c = writes-refused (formOf (c .before .before .before .before .before .before .args .form)) (word-refused _ (c .before .number .given .1) (c .before .before .before .check-word .ensures))
+returns c =
+    let k = c .before .before .before in
+    writes-refused (formOf (k .before .before .before .args .form)) (word-refused _ (c .before .number .given .1) (k .check-word .ensures))
 
 pub written-spec : {M : Type 1} → statement M
 written-spec =
