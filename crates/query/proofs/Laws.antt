@@ -60,6 +60,6 @@ module _ (word P L : List ℕ) (n s d : ℕ) (built : andThen (readWord word) (�
       (subst (RowsIn InRange) b (plain-labels InRange e (a .1))) (subst TreeO b (means-tree (pairs e) (plain e) (plain-means e)))
 
   -- rows of the table's tree are rows of the word's
-  pub built-rows : (F : Option Query → Forest Tag) (code mark kids span up : List ℕ) (m : ℕ) → RowsAre (F (queryOf P L n s d)) code mark kids span up m
-      → RowsOf (λ e. F (plain e)) word code mark kids span up m
-  built-rows F code mark kids span up m A = record { rows = A .rows; tree = λ e r. A .tree ∙ ap F (sym (plain-built e r)); room = A .room }
+  pub built-rows : (F : Option Query → Forest Tag) {code mark kids span up : List ℕ} {m : ℕ}
+      → RowsAre (F (queryOf P L n s d)) code mark kids span up m → RowsOf (λ e. F (plain e)) word code mark kids span up m
+  built-rows F A = record { rows = A .rows; tree = λ e r. A .tree ∙ ap F (sym (plain-built e r)); room = A .room }

@@ -1,5 +1,5 @@
--- A table that is a tree query, marked at s and d, may be laid out, and its tree is the plain tree of the query. Rows that are a tree may be folded and
--- put in order. What is lent is as long as it was.
+-- A table that is a tree query, marked at s and d, may be laid out, and its tree is the plain tree of the query.
+-- Rows that are a tree may be folded and put in order. What is lent is as long as it was.
 use mathlib.Core.Path.{_≡_, refl, sym, ap, subst, _∙_}
 use mathlib.Core.Bool.{Bool, true, false}
 use mathlib.Core.List.{List}
@@ -103,7 +103,8 @@ module _ (code mark kids span up : List ℕ) (n : ℕ) (R : Rows code mark kids 
 
 -- what folding left, moved together, is the minimal tree but for the order of brothers
 pub folded-least : (code mark span up : List ℕ) (n : ℕ) (up′ code′ mark′ parent : List ℕ) (m : ℕ) → RowsFolded code mark span up n up′
-    → (K : RowsKept code mark span up′ n code′ mark′ parent m) → ordered (tableTree parent code′ mark′ m) ≡ ordered (minimal (treeRows code mark span n))
+    → RowsKept code mark span up′ n code′ mark′ parent m
+    → ordered (tableTree parent code′ mark′ m) ≡ ordered (minimal (treeRows code mark span n))
 folded-least code mark span up n up′ code′ mark′ parent m F K =
     ap ordered (rows-tree code′ mark′ (K .kids) (K .spans) parent m (K .rows) ∙ K .tree) ∙ F .least
 

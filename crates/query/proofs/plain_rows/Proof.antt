@@ -3,7 +3,6 @@ use native.Mathlib.Omega.{arith}
 use Rattle.meaning.specs.Tree.{plainTree}
 use Rattle.meaning.specs.Image.{ordered}
 use Rattle.query.proofs.Laws.{built-table, built-rows}
-use borrow.Author.Needs.{needs}
 use Rattle.query.proofs.plain_rows.Statement.{statement}
 use Rattle.query.proofs.plain_rows.Tie as tie
 use Rattle.query.proofs.plain_rows.Reads as reads
@@ -16,10 +15,13 @@ build-requires c κs = (c .before .before .before .before .before .before .pre .
 
 plain-rows-requires : tie.Need-plain-rows-requires
 plain-rows-requires c κs =
-    let p = c .before .before .before .before .before .before .before .before .before .before .before .before .before .before .before .before .before .before .before .before .before .before .before .pre in
-    let b = c .before .before .before .before .before .before .before .before .before .before .before .before .before .before .before .before .build in
+    let a = c .before .before .before .before .before .before .before .before .before .before .before .before .before .before .before .before in
+    let p = a .before .before .before .before .before .before .before .pre in
+    let b = a .build in
+    let t = b .last .1 in
+    let r = b .result in
     let k = b .kept .1 in (
-      built-table _ (b .last .1 .0) (b .last .1 .1 .0) (b .result .rows) (b .result .s) (b .result .d) (b .ensures) (p .0) (omega (arith, k .0)) (omega (arith, k .1 .0)),
+      built-table _ (t .0) (t .1 .0) (r .rows) (r .s) (r .d) (b .ensures) (p .0) (omega (arith, k .0)) (omega (arith, k .1 .0)),
       record { firsts = k .1 .1 .0; nexts = k .1 .1 .1 .0; counts = refl; rows = k .1 .1 .1 .1 .0 },
       p .1,
     )
@@ -27,7 +29,9 @@ plain-rows-requires c κs =
 returns : tie.Need-returns
 returns c =
     let b = c .before .before .before .before .before .before .before .before .before .before .before .before .before .before .before .before .before .build in
-    built-rows _ (b .last .1 .0) (b .last .1 .1 .0) (b .result .rows) (b .result .s) (b .result .d) (b .ensures) (λ Q. ordered (plainTree Q)) _ _ _ _ _ _ (c .plain-rows .ensures)
+    let t = b .last .1 in
+    let r = b .result in
+    built-rows _ (t .0) (t .1 .0) (r .rows) (r .s) (r .d) (b .ensures) (λ Q. ordered (plainTree Q)) (c .plain-rows .ensures)
 
 pub plain-rows-spec : {M : Type 1} → statement M
 plain-rows-spec =

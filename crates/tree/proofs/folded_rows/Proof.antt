@@ -2,7 +2,6 @@ use mathlib.Core.Path.{_∙_}
 use native.Mathlib.Omega.{arith}
 use Rattle.fold.proofs.Whole.{folded-remains}
 use Rattle.tree.proofs.Laws.{rows-sortable, folded-least}
-use borrow.Author.Needs.{needs}
 use Rattle.tree.proofs.folded_rows.Statement.{statement}
 use Rattle.tree.proofs.folded_rows.Tie as tie
 use Rattle.tree.proofs.folded_rows.Reads as reads

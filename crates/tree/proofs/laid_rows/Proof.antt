@@ -2,7 +2,6 @@ use mathlib.Core.Path.{refl, sym, _∙_}
 use native.Mathlib.Omega.{arith}
 use lib.ListN.{getD-replicate}
 use Rattle.tree.proofs.Laws.{ends-inside, marked-table, marked-tree, lay-space, still-lent, still-room}
-use borrow.Author.Needs.{needs}
 use Rattle.tree.proofs.laid_rows.Statement.{statement}
 use Rattle.tree.proofs.laid_rows.Tie as tie
 use Rattle.tree.proofs.laid_rows.Reads as reads
@@ -22,8 +21,9 @@ tree-rows-requires c κs =
 
 returns : tie.Need-returns
 returns c =
-    let p = c .before .before .before .before .before .before .before .before .before .before .before .before .before .before .before .before .pre in
-    let m = c .before .before .before .before .before .before .before .before .before .before .before .before .mark-ends in
+    let e = c .before .before .before .before .before .before .before .before .before .before .before .before in
+    let p = e .before .before .before .before .pre in
+    let m = e .mark-ends in
     let t = c .tree-rows in
     let k = t .kept .1 .1 .1 .1 in
     let j = k .1 .1 .1 .1 in (

@@ -1,7 +1,6 @@
 use mathlib.Core.Path.{refl, ap, _∙_}
 use Rattle.meaning.specs.Folding.{minimal}
 use Rattle.meaning.specs.Image.{ordered}
-use borrow.Author.Needs.{needs}
 use Rattle.tree.proofs.minimal_rows.Statement.{statement}
 use Rattle.tree.proofs.minimal_rows.Tie as tie
 use Rattle.tree.proofs.minimal_rows.Reads as reads
@@ -21,9 +20,11 @@ folded-rows-requires c κs =
 
 ordered-rows-requires : tie.Need-ordered-rows-requires
 ordered-rows-requires c κs =
-    let r = c .before .before .before .before .before .before .before .before .before .before .before .before .before .before .before .before .before .before .before .before .before .before .before .before .before .before .before .before .before .before .before .before .pre .2 in
-    let l = c .before .before .before .before .before .before .before .before .before .before .before .before .before .before .before .before .before .before .before .before .laid-rows .ensures in
-    let f = c .before .before .before .before .before .before .before .before .before .before .before .before .folded-rows .ensures in (
+    let k = c .before .before .before .before .before .before .before .before .before .before .before .before in
+    let a = k .before .before .before .before .before .before .before .before in
+    let r = a .before .before .before .before .before .before .before .before .before .before .before .before .pre .2 in
+    let l = a .laid-rows .ensures in
+    let f = k .folded-rows .ensures in (
       f .0,
       record { firsts = l .1 .firsts; nexts = f .3; counts = l .1 .counts; rows = f .4 },
       record { codes = r .codes; marks = r .marks; counts = l .0 .room .counts; spans = l .0 .room .spans; ups = f .2 ∙ l .0 .room .ups },
@@ -31,8 +32,9 @@ ordered-rows-requires c κs =
 
 returns : tie.Need-returns
 returns c =
-    let l = c .before .before .before .before .before .before .before .before .before .before .before .before .before .before .before .before .before .before .before .before .before .laid-rows .ensures .0 in
-    let f = c .before .before .before .before .before .before .before .before .before .before .before .before .before .folded-rows .ensures in
+    let k = c .before .before .before .before .before .before .before .before .before .before .before .before .before in
+    let l = k .before .before .before .before .before .before .before .before .laid-rows .ensures .0 in
+    let f = k .folded-rows .ensures in
     let o = c .ordered-rows .ensures in
     record { rows = o .rows; tree = o .tree ∙ f .1 ∙ ap (λ x. ordered (minimal x)) (l .tree); room = o .room }
 

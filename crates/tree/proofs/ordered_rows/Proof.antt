@@ -1,7 +1,6 @@
 use mathlib.Core.Path.{refl}
 use native.Mathlib.Omega.{arith}
 use Rattle.tree.proofs.Laws.{lay-space, still-room}
-use borrow.Author.Needs.{needs}
 use Rattle.tree.proofs.ordered_rows.Statement.{statement}
 use Rattle.tree.proofs.ordered_rows.Tie as tie
 use Rattle.tree.proofs.ordered_rows.Reads as reads

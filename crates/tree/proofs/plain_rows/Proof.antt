@@ -2,7 +2,6 @@ use mathlib.Core.Path.{refl, ap, _∙_}
 use Rattle.meaning.specs.Image.{ordered}
 use Rattle.order.proofs.RowsTable.{rows-tree}
 use Rattle.tree.proofs.Laws.{rows-sortable}
-use borrow.Author.Needs.{needs}
 use Rattle.tree.proofs.plain_rows.Statement.{statement}
 use Rattle.tree.proofs.plain_rows.Tie as tie
 use Rattle.tree.proofs.plain_rows.Reads as reads
@@ -17,8 +16,9 @@ laid-rows-requires c κs =
 
 ordered-rows-requires : tie.Need-ordered-rows-requires
 ordered-rows-requires c κs =
-    let r = c .before .before .before .before .before .before .before .before .before .before .before .before .before .before .before .before .before .before .before .before .before .before .before .before .pre .2 in
-    let l = c .before .before .before .before .before .before .before .before .before .before .before .before .laid-rows .ensures in (
+    let a = c .before .before .before .before .before .before .before .before .before .before .before .before in
+    let r = a .before .before .before .before .before .before .before .before .before .before .before .before .pre .2 in
+    let l = a .laid-rows .ensures in (
       rows-sortable _ _ _ _ _ _ (l .0 .rows),
       l .1,
       record { codes = r .codes; marks = r .marks; counts = l .0 .room .counts; spans = l .0 .room .spans; ups = r .ups },
