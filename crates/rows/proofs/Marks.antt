@@ -115,3 +115,12 @@ module _ (mark : List ℕ) (bit : ℕ) {n : ℕ} (S : Single (λ u. bitOf (getD 
       go : Dec (S .row < r) → r ≡ S .row
       go (yes d) = never (cc (sym (single-here S) ∙ f .before (S .row) d))
       go (no d) = single-only S r (omega (arith, S .inside)) (f .here)
+
+-- no second row is the first
+pub first-row-unique : (mark : List ℕ) (bit r r′ : ℕ) → FirstRow mark bit r → FirstRow mark bit r′ → r ≡ r′
+first-row-unique mark bit r r′ f g = go (decLt r r′) (decLt r′ r)
+  where
+    go : Dec (r < r′) → Dec (r′ < r) → r ≡ r′
+    go (yes l) d = never (cc (sym (f .here) ∙ g .before r l))
+    go (no l) (yes m) = never (cc (sym (g .here) ∙ f .before r′ m))
+    go (no l) (no m) = omega arith
