@@ -18,7 +18,7 @@ ghost use Rattle.glue.specs.Rows.{poolRows};
 ghost use Rattle.glue.specs.Trees.{builtOf};
 ghost use Rattle.pool.specs.Pool.{pool, Passes, Applies, PoolForNone, PoolForOnly};
 
-// The rows of the pool.
+// The rows of the pool: an operand has at most one more than it has steps, so 255 steps and 256 pending operands use 511.
 pub const POOL_ROWS: usize = 512;
 
 // What was read where the next sign stands; gives the number of operands that are pending then. No number of an accepted word is broken.

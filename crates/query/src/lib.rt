@@ -1,15 +1,13 @@
 // From an accepted word to the rows of its plain and of its minimal tree. What gluing works in is lent on to what comes after it: clearing a table
 // takes longer than most of the work on a short word.
 use limits::most::MOST_NODES;
+use pool::build::POOL_ROWS;
 use pool::build::build;
 use tree::Codes;
 use tree::Links;
 use tree::Marks;
 ghost use Rattle.tree.specs.Tables.{Room};
 ghost use Rattle.query.specs.Trees.{Accepted, PlainRows, MinimalRows};
-
-// The rows that gluing is lent: an operand has at most one more than it has steps, so 255 steps and 256 pending operands use 511.
-const POOL_ROWS: usize = 512;
 
 // The plain tree, as rows in image order. Returns how many there are.
 pub fn plain_rows(

@@ -25,9 +25,11 @@ merge-rows-requires c κs =
 
 returns-2 : tie.Need-returns-2
 returns-2 c =
+    let b = c .before .before .before .before .before .before .before .before .before .before in
+    let b2 = c .before .before .before .before .before .before in
     let p = c .before .before .before .before .before .before .before .before .before .before .before .before .before .before .before .before .before .before .before .pre in
-    let w = c .before .before .before .before .before .before .or-else .result in
-    level-next _ _ _ _ _ _ (p .3) (p .4) (c .before .before .before .before .before .before .before .before .before .before .m .given .0 .0) w (ap metOf (sym (c .before .before .before .before .before .before .before .before .before .before .m .given .1)) ∙ c .before .before .before .before .before .before .before .before .before .before .before .before .meet-labels .ensures) (c .before .before .before .before .before .before .or-else .ensures) _
+    let w = b2 .or-else .result in
+    level-next _ _ _ _ _ _ (p .3) (p .4) (b .m .given .0 .0) w (ap metOf (sym (b .m .given .1)) ∙ c .before .before .before .before .before .before .before .before .before .before .before .before .meet-labels .ensures) (b2 .or-else .ensures) _
     (c .before .before .before .before .before .merge-rows .ensures) _ (c .next-level .ensures)
 
 pub glue-level-spec : {M : Type 1} → statement M

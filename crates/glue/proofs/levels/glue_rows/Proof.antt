@@ -44,7 +44,9 @@ same-length-2 c = c .before .before .before .before .before .before .before .glu
 returns : tie.Need-returns Inv-loop μ-loop
 returns c =
     rw (c .before .before .renumbered .ensures)
-    (climb-ends _ _ _ _ _ _ (c .before .before .before .before .before .before .before .before .before .before .before .loop .inv) _ _ _ (c .before .before .before .before .before .before .before .glue-level .ensures) (c .before .before .before .before .before .before .before .before .before .before .loop-test .taken) (c .enum-told .given .1))
+    (climb-ends _ _ _ _ _ _ (c .before .before .before .before .before .before .before .before .before .before .before .loop .inv) _ _ _
+    (c .before .before .before .before .before .before .before .glue-level .ensures)
+    (c .before .before .before .before .before .before .before .before .before .before .loop-test .taken) (c .enum-told .given .1))
 
 same-length-3 : tie.Need-same-length-3 Inv-loop μ-loop
 same-length-3 c = c .before .before .before .before .before .before .before .before .glue-level .kept .0 ∙ c .before .before .before .before .before .before .before .before .before .before .before .before .loop .inv .lenP

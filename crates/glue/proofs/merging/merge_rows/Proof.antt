@@ -14,22 +14,38 @@ use Rattle.glue.proofs.merging.relinked.Reads as relinked-reads
 use Rattle.glue.proofs.merging.renumber.Reads as renumber-reads
 
 mul-parent : tie.Need-mul-parent
-mul-parent c = let w = moved-row _ (c .before .before .before .before .before .before .before .before .before .before .before .before .before .before .before .before .args .y) (c .before .before .before .before .before .before .before .before .before .before .before .before .before .before .before .before .args .n) _ (c .before .renumber .ensures) (c .before .before .before .before .before .before .before .before .before .before .before .before .before .before .before .before .pre .0 .3) (omega arith) (omega arith) in omega arith
+mul-parent c =
+    let s = c .before .before .before .before .before .before .before .before .before .before .before .before .before .before .before .before in
+    let w = moved-row _ (s .args .y) (s .args .n) _ (c .before .renumber .ensures) (s .pre .0 .3) (omega arith) (omega arith) in omega arith
 
 slice-write-parent : tie.Need-slice-write-parent
-slice-write-parent c = let w = moved-row _ (c .before .before .before .before .before .before .before .before .before .before .before .before .before .before .before .before .args .y) (c .before .before .before .before .before .before .before .before .before .before .before .before .before .before .before .before .args .n) _ (c .before .renumber .ensures) (c .before .before .before .before .before .before .before .before .before .before .before .before .before .before .before .before .pre .0 .3) (omega arith) (omega arith) in omega (arith, c .before .before .before .before .before .before .before .before .relink-rows2 .ensures .same, c .before .before .before .before .before .before .before .before .before .before .before .before .relink-rows .ensures .same)
+slice-write-parent c =
+    let s = c .before .before .before .before .before .before .before .before .before .before .before .before .before .before .before .before in
+    let w = moved-row _ (s .args .y) (s .args .n) _ (c .before .renumber .ensures) (s .pre .0 .3) (omega arith) (omega arith) in omega (
+      arith,
+      c .before .before .before .before .before .before .before .before .relink-rows2 .ensures .same,
+      c .before .before .before .before .before .before .before .before .before .before .before .before .relink-rows .ensures .same,
+    )
 
 mul-label : tie.Need-mul-label
-mul-label c = let w = moved-row _ (c .before .before .before .before .before .before .before .before .before .before .before .before .before .before .before .before .args .y) (c .before .before .before .before .before .before .before .before .before .before .before .before .before .before .before .before .args .n) _ (c .before .renumber .ensures) (c .before .before .before .before .before .before .before .before .before .before .before .before .before .before .before .before .pre .0 .3) (omega arith) (omega arith) in omega arith
+mul-label c =
+    let s = c .before .before .before .before .before .before .before .before .before .before .before .before .before .before .before .before in
+    let w = moved-row _ (s .args .y) (s .args .n) _ (c .before .renumber .ensures) (s .pre .0 .3) (omega arith) (omega arith) in omega arith
 
 slice-write-label : tie.Need-slice-write-label
-slice-write-label c = let w = moved-row _ (c .before .before .before .before .before .before .before .before .before .before .before .before .before .before .before .before .args .y) (c .before .before .before .before .before .before .before .before .before .before .before .before .before .before .before .before .args .n) _ (c .before .renumber .ensures) (c .before .before .before .before .before .before .before .before .before .before .before .before .before .before .before .before .pre .0 .3) (omega arith) (omega arith) in omega (arith, c .before .before .before .before .pull-labels .ensures .same)
+slice-write-label c =
+    let s = c .before .before .before .before .before .before .before .before .before .before .before .before .before .before .before .before in
+    let w = moved-row _ (s .args .y) (s .args .n) _ (c .before .renumber .ensures) (s .pre .0 .3) (omega arith) (omega arith) in omega (arith, c .before .before .before .before .pull-labels .ensures .same)
 
 same-length : tie.Need-same-length
-same-length c = length-set (c .before .before .before .before .before .before .before .before .relink-rows2 .last .0) (c .before .renumber .result) (c .relinked .result) ∙ c .before .before .before .before .before .before .before .before .relink-rows2 .ensures .same ∙ c .before .before .before .before .before .before .before .before .before .before .before .before .relink-rows .ensures .same
+same-length c =
+    let b = c .before .before .before .before .before .before .before .before in
+    length-set (b .relink-rows2 .last .0) (c .before .renumber .result) (c .relinked .result) ∙ b .relink-rows2 .ensures .same ∙ c .before .before .before .before .before .before .before .before .before .before .before .before .relink-rows .ensures .same
 
 returns : tie.Need-returns
-returns c = merged-end _ _ _ _ _ _ _ _ _ (c .before .before .before .before .before .before .before .before .before .before .before .before .before .before .before .before .pre .1) (c .before .before .before .before .before .before .before .before .before .before .before .before .relink-rows .ensures) (c .before .before .before .before .before .before .before .before .relink-rows2 .ensures) (c .before .before .before .before .pull-labels .ensures) _ _ _ _ _ refl (c .before .before .before .before .before .before .before .before .before .before .before .before .before .before .before .before .pre .0 .0) (c .before .before .before .before .before .before .before .before .before .before .before .before .before .before .before .before .pre .0 .3) (omega arith) (omega arith) (omega arith) (omega arith) (c .before .renumber .ensures) (c .relinked .ensures)
+returns c =
+    let s = c .before .before .before .before .before .before .before .before .before .before .before .before .before .before .before .before in
+    merged-end _ _ _ _ _ _ _ _ _ (s .pre .1) (c .before .before .before .before .before .before .before .before .before .before .before .before .relink-rows .ensures) (c .before .before .before .before .before .before .before .before .relink-rows2 .ensures) (c .before .before .before .before .pull-labels .ensures) _ _ _ _ _ refl (s .pre .0 .0) (s .pre .0 .3) (omega arith) (omega arith) (omega arith) (omega arith) (c .before .renumber .ensures) (c .relinked .ensures)
 
 pub merge-rows-spec : {M : Type 1} → statement M
 merge-rows-spec =

@@ -26,7 +26,9 @@ slice-write-label : tie.Need-slice-write-label Inv-loop μ-loop
 slice-write-label c = let h = c .before .before .loop .inv .2 .same in omega arith
 
 loop-again : tie.Need-loop-again Inv-loop μ-loop
-loop-again c = (omega arith, omega arith, swept-more _ _ _ _ _ _ _ (c .before .before .loop .inv .2) (c .before .before .loop .inv .0) (let h = c .before .before .loop .inv .2 .same in omega arith) refl)
+loop-again c =
+    let l = c .before .before in
+    (omega arith, omega arith, swept-more _ _ _ _ _ _ _ (l .loop .inv .2) (l .loop .inv .0) (let h = l .loop .inv .2 .same in omega arith) refl)
 
 same-length : tie.Need-same-length Inv-loop μ-loop
 same-length c = c .before .loop .inv .2 .same

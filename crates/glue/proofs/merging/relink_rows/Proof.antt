@@ -27,7 +27,9 @@ slice-write-parent : tie.Need-slice-write-parent Inv-loop μ-loop
 slice-write-parent c = let h = c .before .before .before .loop .inv .2 .same in omega arith
 
 loop-again : tie.Need-loop-again Inv-loop μ-loop
-loop-again c = (omega arith, omega arith, swept-more _ _ _ _ _ _ _ (c .before .before .before .loop .inv .2) (c .before .before .before .loop .inv .0) (let h = c .before .before .before .loop .inv .2 .same in omega arith) (c .relinked .ensures))
+loop-again c =
+    let l = c .before .before .before in
+    (omega arith, omega arith, swept-more _ _ _ _ _ _ _ (l .loop .inv .2) (l .loop .inv .0) (let h = l .loop .inv .2 .same in omega arith) (c .relinked .ensures))
 
 same-length : tie.Need-same-length Inv-loop μ-loop
 same-length c = c .before .loop .inv .2 .same

@@ -9,19 +9,27 @@ use Rattle.glue.proofs.merging.relinked.Reads as reads
 use Rattle.glue.proofs.merging.relinked.Lts as lts
 
 returns : tie.Need-returns
-returns c = moved-link (c .before .before .args .x) (c .before .before .args .y) (c .before .before .args .p) _ (λ e. omega arith) (omega arith) (omega arith) (hit-high _ _ _ (omega arith) (omega arith))
+returns c =
+    let s = c .before .before in
+    moved-link (s .args .x) (s .args .y) (s .args .p) _ (λ e. omega arith) (omega arith) (omega arith) (hit-high _ _ _ (omega arith) (omega arith))
 
 returns-2 : tie.Need-returns-2
-returns-2 c = moved-link (c .before .before .args .x) (c .before .before .args .y) (c .before .before .args .p) _ (λ e. omega arith) (omega arith) (omega arith) (hit-low _ _ _ (omega arith) (omega arith))
+returns-2 c =
+    let s = c .before .before in
+    moved-link (s .args .x) (s .args .y) (s .args .p) _ (λ e. omega arith) (omega arith) (omega arith) (hit-low _ _ _ (omega arith) (omega arith))
 
 returns-3 : tie.Need-returns-3
 returns-3 c = relinked-none _ (c .before .before .args .p) (omega arith)
 
 returns-4 : tie.Need-returns-4
-returns-4 c = moved-link (c .before .before .before .args .x) (c .before .before .before .args .y) (c .before .before .before .args .p) _ (λ e. omega arith) (omega arith) (omega arith) (miss-high _ _ _ (omega arith))
+returns-4 c =
+    let s = c .before .before .before in
+    moved-link (s .args .x) (s .args .y) (s .args .p) _ (λ e. omega arith) (omega arith) (omega arith) (miss-high _ _ _ (omega arith))
 
 returns-5 : tie.Need-returns-5
-returns-5 c = moved-link (c .before .before .before .args .x) (c .before .before .before .args .y) (c .before .before .before .args .p) _ (λ e. omega arith) (omega arith) (omega arith) (miss-low _ _ _ (λ e. omega arith) (omega arith))
+returns-5 c =
+    let s = c .before .before .before in
+    moved-link (s .args .x) (s .args .y) (s .args .p) _ (λ e. omega arith) (omega arith) (omega arith) (miss-low _ _ _ (λ e. omega arith) (omega arith))
 
 pub relinked-spec : {M : Type 1} → statement M
 relinked-spec =

@@ -18,26 +18,32 @@ shift-rows-requires c κs =
     ((f .small, f .parents), links-small _ _ _ (c .before .before .before .pre .1 .1 .tree) (let s = f .small in omega arith))
 
 add-glue-rows-2 : tie.Need-add-glue-rows-2
-add-glue-rows-2 c = let r = c .before .before .before .before .before .before .before .before .pre .0 .small in let m = live-below _ _ _ _ (c .before .before .before .before .before .before .before .before .pre .1 .1 .dLive) in omega arith
+add-glue-rows-2 c =
+    let s = c .before .before .before .before .before .before .before .before in
+    let r = s .pre .0 .small in let m = live-below _ _ _ _ (s .pre .1 .1 .dLive) in omega arith
 
 add-glue-rows-3 : tie.Need-add-glue-rows-3
-add-glue-rows-3 c = let r = c .before .before .before .before .before .before .before .before .before .before .before .before .pre .0 .small in let m = live-below _ _ _ _ (c .before .before .before .before .before .before .before .before .before .before .before .before .pre .1 .1 .sLive) in omega arith
+add-glue-rows-3 c =
+    let s = c .before .before .before .before .before .before .before .before .before .before .before .before in
+    let r = s .pre .0 .small in let m = live-below _ _ _ _ (s .pre .1 .1 .sLive) in omega arith
 
 glue-rows-requires : tie.Need-glue-rows-requires
 glue-rows-requires c κs =
-    let f = c .before .before .before .before .before .before .before .before .before .before .before .before .pre .0 in
+    let s2 = c .before .before .before .before .before .before .before .before .before .before .before .before in
+    let f = s2 .pre .0 in
     let s = c .before .before .before .before .before .before .before .before .shift-rows in
     let k = s .kept .0 in (
       record { small = f .small; parents = omega arith; labels = f .labels },
-      across-safe _ _ _ _ (c .before .before .before .before .before .before .before .before .before .before .before .before .pre .1 .0) (c .before .before .before .before .before .before .before .before .before .before .before .before .pre .1 .1) (s .last .0) (s .ensures (c .before .before .before .before .before .before .before .before .before .before .before .before .args .label .now)) (c .before .before .before .before .before .before .before .before .before .before .before .before .args .both) _ (c .before .meeting .ensures),
+      across-safe _ _ _ _ (s2 .pre .1 .0) (s2 .pre .1 .1) (s .last .0) (s .ensures (s2 .args .label .now)) (s2 .args .both) _ (c .before .meeting .ensures),
     )
 
 returns : tie.Need-returns
 returns c =
+    let s2 = c .before .before .before .before .before .before .before .before .before .before .before .before .before .before .before .before .before in
     let s = c .before .before .before .before .before .before .before .before .before .before .before .before .before .shift-rows in
     let g = c .before .before .before .before .glue-rows in
-    let v = c .before .before .before .before .before .before .before .before .before .before .before .before .before .before .before .before .before .pre .1 in
-    across-end _ _ _ _ (v .0) (v .1) (s .last .0) (s .ensures (c .before .before .before .before .before .before .before .before .before .before .before .before .before .before .before .before .before .args .label .now)) (c .before .before .before .before .before .before .before .before .before .before .before .before .before .before .before .before .before .args .both) _ (c .before .before .before .before .before .before .meeting .ensures)
+    let v = s2 .pre .1 in
+    across-end _ _ _ _ (v .0) (v .1) (s .last .0) (s .ensures (s2 .args .label .now)) (s2 .args .both) _ (c .before .before .before .before .before .before .meeting .ensures)
     (g .result) (g .last .0) (g .last .1 .0) (g .ensures)
 
 pub glue-across-spec : {M : Type 1} → statement M

@@ -25,7 +25,9 @@ shifted-requires : tie.Need-shifted-requires Inv-loop μ-loop
 shifted-requires c κs = (omega arith, shift-small _ _ _ _ _ (c .before .before .loop .inv .3) (c .before .before .loop .inv .0) (c .before .loop-test .taken) (c .before .before .before .before .pre .1))
 
 loop-again : tie.Need-loop-again Inv-loop μ-loop
-loop-again c = (omega arith, omega arith, refl, here-more _ _ _ _ _ _ (c .before .before .before .loop .inv .3) (c .before .before .before .loop .inv .0) (let h = c .before .before .before .loop .inv .3 .same in omega arith) (c .shifted .ensures))
+loop-again c =
+    let l = c .before .before .before in
+    (omega arith, omega arith, refl, here-more _ _ _ _ _ _ (l .loop .inv .3) (l .loop .inv .0) (let h = l .loop .inv .3 .same in omega arith) (c .shifted .ensures))
 
 returns : tie.Need-returns Inv-loop μ-loop
 returns c L = shift-end _ L _ _ _ (swept-end _ _ _ _ _ _ _ (c .before .loop .inv .3) (omega arith))

@@ -20,36 +20,41 @@ operand-requires-2 c κs = let p = c .before .before .before .before .before .be
 
 sub-glue-two : tie.Need-sub-glue-two
 sub-glue-two c =
-    let a = c .before .before .before .before .before .before .before .before .args in
+    let s = c .before .before .before .before .before .before .before .before in
+    let a = s .args in
     let x = c .before .operand .ensures (a .parent .now) (a .label .now) in
     let y = c .operand2 .ensures (a .parent .now) (a .label .now) in
-    lent-fits _ _ (c .before .before .before .before .before .before .before .before .pre .0) (c .before .before .before .before .before .before .before .before .pre .1 .0) _ (c .before .before .link .ensures .0) _ _ x y .0
+    lent-fits _ _ (s .pre .0) (s .pre .1 .0) _ (c .before .before .link .ensures .0) _ _ x y .0
 
 part-glue-two-start : tie.Need-part-glue-two-start
 part-glue-two-start c =
-    let a = c .before .before .before .before .before .before .before .before .args in
+    let s = c .before .before .before .before .before .before .before .before in
+    let a = s .args in
     let x = c .before .operand .ensures (a .parent .now) (a .label .now) in
     let y = c .operand2 .ensures (a .parent .now) (a .label .now) in
-    lent-fits _ _ (c .before .before .before .before .before .before .before .before .pre .0) (c .before .before .before .before .before .before .before .before .pre .1 .0) _ (c .before .before .link .ensures .0) _ _ x y .0
+    lent-fits _ _ (s .pre .0) (s .pre .1 .0) _ (c .before .before .link .ensures .0) _ _ x y .0
 
 sub-glue-two-2 : tie.Need-sub-glue-two-2
 sub-glue-two-2 c =
-    let a = c .before .before .before .before .before .before .before .before .before .args in
+    let s = c .before .before .before .before .before .before .before .before .before in
+    let a = s .args in
     let x = c .before .before .operand .ensures (a .parent .now) (a .label .now) in
     let y = c .before .operand2 .ensures (a .parent .now) (a .label .now) in
-    lent-fits _ _ (c .before .before .before .before .before .before .before .before .before .pre .0) (c .before .before .before .before .before .before .before .before .before .pre .1 .0) _ (c .before .before .before .link .ensures .0) _ _ x y .1
+    lent-fits _ _ (s .pre .0) (s .pre .1 .0) _ (c .before .before .before .link .ensures .0) _ _ x y .1
 
 part-glue-two-start-2 : tie.Need-part-glue-two-start-2
 part-glue-two-start-2 c =
-    let a = c .before .before .before .before .before .before .before .before .before .args in
+    let s = c .before .before .before .before .before .before .before .before .before in
+    let a = s .args in
     let x = c .before .before .operand .ensures (a .parent .now) (a .label .now) in
     let y = c .before .operand2 .ensures (a .parent .now) (a .label .now) in
-    lent-fits _ _ (c .before .before .before .before .before .before .before .before .before .pre .0) (c .before .before .before .before .before .before .before .before .before .pre .1 .0) _ (c .before .before .before .link .ensures .0) _ _ x y .1
+    lent-fits _ _ (s .pre .0) (s .pre .1 .0) _ (c .before .before .before .link .ensures .0) _ _ x y .1
 
 glue-two-requires : tie.Need-glue-two-requires
 glue-two-requires c κs =
-    let p = c .before .before .before .before .before .before .before .before .before .before .pre in
-    let g = c .before .before .before .before .before .before .before .before .before .before .args in
+    let s = c .before .before .before .before .before .before .before .before .before .before in
+    let p = s .pre in
+    let g = s .args in
     let x = c .before .before .before .operand .ensures (g .parent .now) (g .label .now) in
     let y = c .before .before .operand2 .ensures (g .parent .now) (g .label .now) in
     let a = c .before .before .before .before .link .ensures .0 in
