@@ -16,14 +16,14 @@ use Rattle.theory.proofs.Look.{never}
 
 -- ------------------------------------------------------------------ writing
 -- a number of one group, and one of several
-numF-one : (f n : ℕ) → n < 128 → numF (suc f) n ≡ n ∷ []
+pub numF-one : (f n : ℕ) → n < 128 → numF (suc f) n ≡ n ∷ []
 numF-one f n lt = go (decLt n 128)
   where
     go : (d : Dec (n < 128)) → pick d (n ∷ []) ((128 + n % 128) ∷ numF f (n / 128)) ≡ n ∷ []
     go (yes p) = refl
     go (no q) = absurd (q lt)
 
-numF-more : (f n : ℕ) → 128 ≤ n → numF (suc f) n ≡ (128 + n % 128) ∷ numF f (n / 128)
+pub numF-more : (f n : ℕ) → 128 ≤ n → numF (suc f) n ≡ (128 + n % 128) ∷ numF f (n / 128)
 numF-more f n le = go (decLt n 128)
   where
     go : (d : Dec (n < 128)) → pick d (n ∷ []) ((128 + n % 128) ∷ numF f (n / 128)) ≡ (128 + n % 128) ∷ numF f (n / 128)
