@@ -1,11 +1,12 @@
 -- Comparisons with three answers, of numbers and of lists of bytes; "ascending byte order" is the comparison of bytes.
-use mathlib.Core.Path.{_≡_, refl, sym, _∙_}
+use mathlib.Core.Path.{_≡_, refl, ap, _∙_}
 use mathlib.Core.Logic.{_⊎_, inl, inr}
 use mathlib.Core.List.{List, [], _∷_}
 use mathlib.Core.Bool.{true, false, cond}
-use Prim.Native.Nat.{ℕ, _<_, _≤_}
+use Prim.Native.Nat.{ℕ, _+_, _*_, _<_, _≤_}
 use native.Mathlib.Omega.{arith}
 use native.Mathlib.Decide.{decLt}
+use native.Mathlib.Nat.{mul-le-mul-right}
 use borrow.Author.Tests.{lt-ltb, le-ltb}
 use Rattle.meaning.specs.Basics.{pick}
 use Rattle.meaning.specs.Image.{LeL, decL}
@@ -43,26 +44,22 @@ three a b = go (decLt a b) (decLt b a)
     go (no n) (yes p) = upper p (cmp-gt a b p)
     go (no n) (no m) = equal (omega arith) (cmp-eq a b (omega arith) (omega arith))
 
--- X and Y stand for the pairs (a, b) and (a′, b′), the first number weighing more
-pub pair-cmp : (a a′ b b′ X Y : ℕ) → (a < a′ → X < Y) → (a′ < a → Y < X) → (a ≡ a′ → b < b′ → X < Y) → (a ≡ a′ → b′ < b → Y < X) → (a ≡ a′ → b ≡ b′ → X ≡ Y)
-    → cmpN X Y ≡ thenBy (cmpN a a′) (cmpN b b′)
-pair-cmp a a′ b b′ X Y p q r s t = go (three a a′) (three b b′)
+-- numbers in two digits compare digit by digit, whatever the first one weighs
+pub digit-cmp : (W a a′ b b′ : ℕ) → b < W → b′ < W → cmpN (a * W + b) (a′ * W + b′) ≡ thenBy (cmpN a a′) (cmpN b b′)
+digit-cmp W a a′ b b′ l l′ = go (three a a′) (three b b′)
   where
-    go : Three a a′ → Three b b′ → cmpN X Y ≡ thenBy (cmpN a a′) (cmpN b b′)
-    go (lower l e) y = cmp-lt X Y (p l) ∙ rw e
-    go (upper l e) y = cmp-gt X Y (q l) ∙ rw e
-    go (equal z e) (lower l e′) = cmp-lt X Y (r z l) ∙ rw (e, e′)
-    go (equal z e) (upper l e′) = cmp-gt X Y (s z l) ∙ rw (e, e′)
-    go (equal z e) (equal z′ e′) = let h = t z z′ in cmp-eq X Y (omega arith) (omega arith) ∙ rw (e, e′)
+    X : ℕ
+    X = a * W + b
 
--- X and Y stand for a and b
-pub same-cmp : (a b X Y : ℕ) → (a < b → X < Y) → (b < a → Y < X) → (a ≡ b → X ≡ Y) → cmpN X Y ≡ cmpN a b
-same-cmp a b X Y p q r = go (three a b)
-  where
-    go : Three a b → cmpN X Y ≡ cmpN a b
-    go (lower l e) = cmp-lt X Y (p l) ∙ sym e
-    go (upper l e) = cmp-gt X Y (q l) ∙ sym e
-    go (equal z e) = let h = r z in cmp-eq X Y (omega arith) (omega arith) ∙ sym e
+    Y : ℕ
+    Y = a′ * W + b′
+
+    go : Three a a′ → Three b b′ → cmpN X Y ≡ thenBy (cmpN a a′) (cmpN b b′)
+    go (lower h e) y = let m = mul-le-mul-right W h in cmp-lt X Y (omega arith) ∙ rw e
+    go (upper h e) y = let m = mul-le-mul-right W h in cmp-gt X Y (omega arith) ∙ rw e
+    go (equal z e) (lower h e′) = let m = ap (λ (x : ℕ). x * W) z in cmp-lt X Y (omega arith) ∙ rw (e, e′)
+    go (equal z e) (upper h e′) = let m = ap (λ (x : ℕ). x * W) z in cmp-gt X Y (omega arith) ∙ rw (e, e′)
+    go (equal z e) (equal h e′) = let m = ap (λ (x : ℕ). x * W) z in cmp-eq X Y (omega arith) (omega arith) ∙ rw (e, e′)
 
 -- ------------------------------------------------------------------ bytes
 unfoldable pub cmpL : List ℕ → List ℕ → Order

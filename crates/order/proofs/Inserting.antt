@@ -1,4 +1,4 @@
--- Putting a tree into a list that is in order, by two links: what is read afterwards. What putting a forest in order keeps.
+-- A tree put into a list of brothers by two links, and forests that are so put in order: the rows, their number and their children stay.
 use mathlib.Core.Path.{_≡_, refl, sym, ap, _∙_}
 use mathlib.Core.Logic.{_⊎_, inl, inr}
 use mathlib.Core.List.{List}
@@ -9,25 +9,24 @@ use lib.ListN.{length, getD, set, length-set}
 use lib.Seq.{getD-set-same, getD-set-other}
 use Rattle.meaning.specs.Tree.{Forest, bare, tree, size}
 use Rattle.rows.specs.Rows.{width}
-use Rattle.order.specs.Links.{forestAt, Linked, In, Apart, cmpF, cmpT, upTo, placeBy, orderedBy, spotOf, Ready, Placed}
-use Rattle.order.proofs.Links.{read-is, finite-of}
+use Rattle.order.specs.Links.{forestAt, Linked, In, Apart, cmpF, cmpT, upTo, placeBy, orderedBy, spotOf, spotAt, Ready, PutAmong}
 
 -- ------------------------------------------------------------------ links that are kept
-pub kept : (fs ns fs′ ns′ : List ℕ) → length ns′ ≡ length ns → (F : Forest ℕ) (c : ℕ)
-    → ((j : ℕ) → In j F → (getD fs′ j 0 ≡ getD fs j 0) × (getD ns′ j 0 ≡ getD ns j 0)) → Linked fs ns c F → Linked fs′ ns′ c F
-kept fs ns fs′ ns′ len bare c same h = rw len h
-kept fs ns fs′ ns′ len (tree i k r) c same (e, l, hk, hr) = (
+pub kept : (n : ℕ) (fs ns fs′ ns′ : List ℕ) (F : Forest ℕ) (c : ℕ)
+    → ((j : ℕ) → In j F → (getD fs′ j 0 ≡ getD fs j 0) × (getD ns′ j 0 ≡ getD ns j 0)) → Linked n fs ns c F → Linked n fs′ ns′ c F
+kept n fs ns fs′ ns′ bare c same h = h
+kept n fs ns fs′ ns′ (tree i k r) c same (e, l, hk, hr) = (
   e,
-  rw len l,
-  rw (same i (inl refl) .0) (kept fs ns fs′ ns′ len k (getD fs i 0) (λ j m. same j (inr (inl m))) hk),
-  rw (same i (inl refl) .1) (kept fs ns fs′ ns′ len r (getD ns i 0) (λ j m. same j (inr (inr m))) hr),
+  l,
+  rw (same i (inl refl) .0) (kept n fs ns fs′ ns′ k (getD fs i 0) (λ j m. same j (inr (inl m))) hk),
+  rw (same i (inl refl) .1) (kept n fs ns fs′ ns′ r (getD ns i 0) (λ j m. same j (inr (inr m))) hr),
 )
 
-in-lt : (fs ns : List ℕ) (F : Forest ℕ) (c j : ℕ) → Linked fs ns c F → In j F → j < length ns
-in-lt fs ns bare c j h m = absurd m
-in-lt fs ns (tree i k r) c j (e, l, hk, hr) (inl m) = rw m l
-in-lt fs ns (tree i k r) c j (e, l, hk, hr) (inr (inl m)) = in-lt fs ns k (getD fs i 0) j hk m
-in-lt fs ns (tree i k r) c j (e, l, hk, hr) (inr (inr m)) = in-lt fs ns r (getD ns i 0) j hr m
+in-lt : (n : ℕ) (fs ns : List ℕ) (F : Forest ℕ) (c j : ℕ) → Linked n fs ns c F → In j F → j < n
+in-lt n fs ns bare c j h m = absurd m
+in-lt n fs ns (tree i k r) c j (e, l, hk, hr) (inl m) = rw m l
+in-lt n fs ns (tree i k r) c j (e, l, hk, hr) (inr (inl m)) = in-lt n fs ns k (getD fs i 0) j hk m
+in-lt n fs ns (tree i k r) c j (e, l, hk, hr) (inr (inr m)) = in-lt n fs ns r (getD ns i 0) j hr m
 
 -- ------------------------------------------------------------------ a tree put into a list
 module _ (key : List ℕ) (c : ℕ) (K : Forest ℕ) where
@@ -36,17 +35,37 @@ module _ (key : List ℕ) (c : ℕ) (K : Forest ℕ) where
   in-place bare j m = m
   in-place (tree b l r) j m = go (in-place r j) (upTo (cmpT key c K b l)) m
     where
+      up : (j ≡ c) ⊎ In j K ⊎ In j r → (j ≡ c) ⊎ In j K ⊎ In j (tree b l r)
+      up (inl y) = inl y
+      up (inr (inl y)) = inr (inl y)
+      up (inr (inr y)) = inr (inr (inr (inr y)))
+
       go : (In j (placeBy key c K r) → (j ≡ c) ⊎ In j K ⊎ In j r) → (t : Bool)
           → In j (cond t (tree c K (tree b l r)) (tree b l (placeBy key c K r))) → (j ≡ c) ⊎ In j K ⊎ In j (tree b l r)
       go ih true x = x
       go ih false (inl x) = inr (inr (inl x))
       go ih false (inr (inl x)) = inr (inr (inr (inl x)))
       go ih false (inr (inr x)) = up (ih x)
-        where
-          up : (j ≡ c) ⊎ In j K ⊎ In j r → (j ≡ c) ⊎ In j K ⊎ In j (tree b l r)
-          up (inl y) = inl y
-          up (inr (inl y)) = inr (inl y)
-          up (inr (inr y)) = inr (inr (inr (inr y)))
+
+  apart-place : (Q : Forest ℕ) → Apart (tree c K Q) → Apart (placeBy key c K Q)
+  unfolding placeBy
+  apart-place bare a = a
+  apart-place (tree b l r) (ck, cq, kq, ak, (bl, br, lr, al, ar)) =
+      go (apart-place r (ck, (λ m. cq (inr (inr m))), (λ j m m′. kq j m (inr (inr m′))), ak, ar)) (upTo (cmpT key c K b l))
+    where
+      one : (b ≡ c) ⊎ In b K ⊎ In b r → ⊥
+      one (inl e) = cq (inl (sym e))
+      one (inr (inl m)) = kq b m (inl refl)
+      one (inr (inr m)) = br m
+
+      two : (j : ℕ) → In j l → (j ≡ c) ⊎ In j K ⊎ In j r → ⊥
+      two j m (inl e) = cq (inr (inl (rw e at m)))
+      two j m (inr (inl x)) = kq j x (inr (inl m))
+      two j m (inr (inr x)) = lr j m x
+
+      go : Apart (placeBy key c K r) → (t : Bool) → Apart (cond t (tree c K (tree b l r)) (tree b l (placeBy key c K r)))
+      go ih true = (ck, cq, kq, ak, (bl, br, lr, al, ar))
+      go ih false = (bl, (λ m. one (in-place r b m)), (λ j m m′. two j m (in-place r j m′)), al, ih)
 
   size-place : (Q : Forest ℕ) → size (placeBy key c K Q) ≡ size (tree c K Q)
   unfolding placeBy
@@ -57,123 +76,122 @@ module _ (key : List ℕ) (c : ℕ) (K : Forest ℕ) where
       go ih true = refl
       go ih false = omega arith
 
-  apart-place : (Q : Forest ℕ) → Apart (tree c K Q) → Apart (placeBy key c K Q)
+  width-place : (Q : Forest ℕ) → width (placeBy key c K Q) ≡ suc (width Q)
   unfolding placeBy
-  apart-place bare a = a
-  apart-place (tree b l r) (ck, cq, kq, ak, (bl, br, lr, al, ar)) =
-      go (apart-place r (ck, (λ m. cq (inr (inr m))), (λ j m m′. kq j m (inr (inr m′))), ak, ar)) (upTo (cmpT key c K b l))
+  width-place bare = refl
+  width-place (tree b l r) = go (upTo (cmpT key c K b l)) (width-place r)
     where
-      go : Apart (placeBy key c K r) → (t : Bool) → Apart (cond t (tree c K (tree b l r)) (tree b l (placeBy key c K r)))
-      go ih true = (ck, cq, kq, ak, (bl, br, lr, al, ar))
-      go ih false = (bl, (λ m. one (in-place r b m)), (λ j m m′. two j m (in-place r j m′)), al, ih)
-        where
-          one : (b ≡ c) ⊎ In b K ⊎ In b r → ⊥
-          one (inl e) = cq (inl (sym e))
-          one (inr (inl m)) = kq b m (inl refl)
-          one (inr (inr m)) = br m
+      go : (t : Bool) → width (placeBy key c K r) ≡ suc (width r) → width (cond t (tree c K (tree b l r)) (tree b l (placeBy key c K r))) ≡ suc (suc (width r))
+      go true ih = refl
+      go false ih = ap suc ih
 
-          two : (j : ℕ) → In j l → (j ≡ c) ⊎ In j K ⊎ In j r → ⊥
-          two j m (inl e) = cq (inr (inl (rw e at m)))
-          two j m (inr (inl x)) = kq j x (inr (inl m))
-          two j m (inr (inr x)) = lr j m x
+-- ------------------------------------------------------------------ by two links
+-- the tree at c with K below it, whose next brother is now v; the next brother of p is now w
+module _ (n : ℕ) (fs ns key : List ℕ) (c : ℕ) (K : Forest ℕ) (lc : c < n) (len : n ≤ length ns) (hK : Linked n fs ns (getD fs c 0) K) (cK : In c K → ⊥) where
+  -- rows other than c and p keep their links
+  other : (p v w x : ℕ) (F : Forest ℕ) → (In c F → ⊥) → (In p F → ⊥) → Linked n fs ns x F → Linked n fs (set (set ns c v) p w) x F
+  other p v w x F nc np h =
+      kept n fs ns fs (set (set ns c v) p w) F x
+      (λ j m. (refl, getD-set-other (set ns c v) p j w 0 (λ e. np (rw e at m)) ∙ getD-set-other ns c j v 0 (λ e. nc (rw e at m)))) h
 
--- rows other than c and p keep their links
-other : (fs ns : List ℕ) (c p v w x : ℕ) (F : Forest ℕ) → (In c F → ⊥) → (In p F → ⊥) → Linked fs ns x F → Linked fs (set (set ns c v) p w) x F
-other fs ns c p v w x F nc np h =
-    kept fs ns fs (set (set ns c v) p w) (length-set (set ns c v) p w ∙ length-set ns c v) F x
-    (λ j m. (refl, getD-set-other (set ns c v) p j w 0 (λ e. np (rw e at m)) ∙ getD-set-other ns c j v 0 (λ e. nc (rw e at m)))) h
-
-module _ (fs ns key : List ℕ) (c : ℕ) (K : Forest ℕ) (lc : c < length ns) (hK : Linked fs ns (getD fs c 0) K) (cK : In c K → ⊥) where
   -- after the tree at p, or in front
   abbrev Lands : ℕ → ℕ → Forest ℕ → ℕ → Type 0
   Lands q p₀ Q p =
-      ((p ≡ p₀) × (placeBy key c K Q ≡ tree c K Q)) ⊎ (In p Q × Linked fs (set (set ns c (getD ns p 0)) p c) q (placeBy key c K Q))
+      ((p ≡ p₀) × (placeBy key c K Q ≡ tree c K Q)) ⊎ (In p Q × Linked n fs (set (set ns c (getD ns p 0)) p c) q (placeBy key c K Q))
 
-  lands : (Q : Forest ℕ) (q p₀ : ℕ) → Linked fs ns q Q → Apart Q → (In c Q → ⊥) → ((j : ℕ) → In j K → In j Q → ⊥) → Lands q p₀ Q (spotOf key c K p₀ Q)
+  lands : (Q : Forest ℕ) (q p₀ : ℕ) → Linked n fs ns q Q → Apart Q → (In c Q → ⊥) → ((j : ℕ) → In j K → In j Q → ⊥) → Lands q p₀ Q (spotOf key c K p₀ Q)
   unfolding spotOf placeBy
   lands bare q p₀ h a cQ kQ = inl (refl, refl)
   lands (tree b l r) q p₀ (e, lb, hl, hr) (bl, br, lr, al, ar) cQ kQ =
       go (upTo (cmpT key c K b l)) (lands r (getD ns b 0) b hr ar (λ m. cQ (inr (inr m))) (λ j m m′. kQ j m (inr (inr m′))))
     where
+      p′ : Bool → ℕ
+      p′ t = cond t p₀ (spotOf key c K b r)
+
+      Q′ : Bool → Forest ℕ
+      Q′ t = cond t (tree c K (tree b l r)) (tree b l (placeBy key c K r))
+
       go : (t : Bool) → Lands (getD ns b 0) b r (spotOf key c K b r)
-          → ((cond t p₀ (spotOf key c K b r) ≡ p₀) × (cond t (tree c K (tree b l r)) (tree b l (placeBy key c K r)) ≡ tree c K (tree b l r)))
-          ⊎ (In (cond t p₀ (spotOf key c K b r)) (tree b l r)
-          × Linked fs (set (set ns c (getD ns (cond t p₀ (spotOf key c K b r)) 0)) (cond t p₀ (spotOf key c K b r)) c) q (cond t (tree c K (tree b l r)) (tree b l (placeBy key c K r))))
+          → ((p′ t ≡ p₀) × (Q′ t ≡ tree c K (tree b l r))) ⊎ (In (p′ t) (tree b l r) × Linked n fs (set (set ns c (getD ns (p′ t) 0)) (p′ t) c) q (Q′ t))
       go true ih = inl (refl, refl)
       go false (inl (ep, er)) =
+          let v = getD ns b 0 in
           inr (
             inl ep,
             rw (ep, er) (
               e,
-              rw (length-set (set ns c (getD ns b 0)) b c, length-set ns c (getD ns b 0)) lb,
-              other fs ns c b (getD ns b 0) c (getD fs b 0) l (λ m. cQ (inr (inl m))) bl hl,
-              rw (getD-set-same (set ns c (getD ns b 0)) b c 0 (rw (length-set ns c (getD ns b 0)) lb)) (
+              lb,
+              other b v c (getD fs b 0) l (λ m. cQ (inr (inl m))) bl hl,
+              rw (getD-set-same (set ns c v) b c 0 (rw (length-set ns c v) (omega arith))) (
                 refl,
-                rw (length-set (set ns c (getD ns b 0)) b c, length-set ns c (getD ns b 0)) lc,
-                other fs ns c b (getD ns b 0) c (getD fs c 0) K cK (λ m. kQ b m (inl refl)) hK,
-                rw (getD-set-other (set ns c (getD ns b 0)) b c c 0 (λ x. cQ (inl x)), getD-set-same ns c (getD ns b 0) 0 lc)
-                    (other fs ns c b (getD ns b 0) c (getD ns b 0) r (λ m. cQ (inr (inr m))) br hr),
+                lc,
+                other b v c (getD fs c 0) K cK (λ m. kQ b m (inl refl)) hK,
+                rw (getD-set-other (set ns c v) b c c 0 (λ x. cQ (inl x)), getD-set-same ns c v 0 (omega arith))
+                    (other b v c v r (λ m. cQ (inr (inr m))) br hr),
               ),
             ),
           )
       go false (inr (m, h)) =
-          let p = spotOf key c K b r in
+          let p = spotOf key c K b r in let v = getD ns p 0 in
           inr (
             inr (inr m),
             (
               e,
-              rw (length-set (set ns c (getD ns p 0)) p c, length-set ns c (getD ns p 0)) lb,
-              other fs ns c p (getD ns p 0) c (getD fs b 0) l (λ x. cQ (inr (inl x))) (λ x. lr p x m) hl,
-              rw (getD-set-other (set ns c (getD ns p 0)) p b c 0 (λ x. br (rw x m)), getD-set-other ns c b (getD ns p 0) 0 (λ x. cQ (inl (sym x)))) h,
+              lb,
+              other p v c (getD fs b 0) l (λ x. cQ (inr (inl x))) (λ x. lr p x m) hl,
+              rw (getD-set-other (set ns c v) p b c 0 (λ x. br (rw x m)), getD-set-other ns c b v 0 (λ x. cQ (inl (sym x)))) h,
             ),
           )
 
-module _ (fs ns key : List ℕ) (c q : ℕ) (w : Ready fs ns key c q) (p : ℕ) (ep : p ≡ spotOf key c (forestAt fs ns (getD fs c 0)) (length ns) (forestAt fs ns q)) where
+module _ {n : ℕ} {fs ns key : List ℕ} {c q : ℕ} (w : Ready n fs ns key c q) {p : ℕ} (ep : p ≡ spotAt n fs ns key c q) where
   abbrev K : Forest ℕ
-  K = forestAt fs ns (getD fs c 0)
+  K = forestAt n fs ns (getD fs c 0)
 
   abbrev Q : Forest ℕ
-  Q = forestAt fs ns q
+  Q = forestAt n fs ns q
 
-  landed : Lands fs ns key c K (w .inside) (w .kids .holds) (w .apart .0) q (length ns) Q p
-  landed = rw ep (lands fs ns key c K (w .inside) (w .kids .holds) (w .apart .0) Q q (length ns) (w .list .holds) (w .apart .4) (w .apart .1) (w .apart .2))
+  abbrev Landed : ℕ → Type 0
+  Landed x = Lands n fs ns key c K (w .inside) (w .wide .nexts) (w .kids .holds) (w .apart .0) q n Q x
 
-  built : (ns′ : List ℕ) (r : ℕ) → r < 65536 → length ns′ ≡ length ns → Linked fs ns′ r (placeBy key c K Q)
-      → ((j : ℕ) → (j ≡ c → ⊥) → (In j Q → ⊥) → getD ns′ j 0 ≡ getD ns j 0) → Placed fs ns key c q ns′ r
-  built ns′ r low len h rest =
-      let s : size (placeBy key c K Q) ≤ length ns′ = rw (size-place key c K Q, len) (w .room) in
-      record { reads = read-is fs ns′ r (placeBy key c K Q) h s; finite = finite-of fs ns′ r (placeBy key c K Q) h s; low = low; nexts = len; rest = rest }
+  landed : Landed p
+  unfolding spotAt
+  landed = rw ep (lands n fs ns key c K (w .inside) (w .wide .nexts) (w .kids .holds) (w .apart .0) Q q n (w .list .holds) (w .apart .4) (w .apart .1) (w .apart .2))
 
-  pub placed-front : length ns ≤ p → (ns′ : List ℕ) → ns′ ≡ set ns c q → Placed fs ns key c q ns′ c
-  placed-front h ns′ e = go landed
+  pub placed-front : n ≤ p → PutAmong n fs ns key c q (set ns c q) c
+  placed-front h = go landed
     where
-      go : Lands fs ns key c K (w .inside) (w .kids .holds) (w .apart .0) q (length ns) Q p → Placed fs ns key c q ns′ c
-      go (inl (x, y)) = rw e (built (set ns c q) c (omega (arith, w .inside, w .short)) (length-set ns c q) (rw y (
-        refl,
-        rw (length-set ns c q) (w .inside),
-        kept fs ns fs (set ns c q) (length-set ns c q) K (getD fs c 0) (λ j m. (refl, getD-set-other ns c j q 0 (λ x′. w .apart .0 (rw x′ at m)))) (w .kids .holds),
-        rw (getD-set-same ns c q 0 (w .inside)) (kept fs ns fs (set ns c q) (length-set ns c q) Q q (λ j m. (refl, getD-set-other ns c j q 0 (λ x′. w .apart .1 (rw x′ at m)))) (w .list .holds)),
-      ))
-          (λ j jc jq. getD-set-other ns c j q 0 jc))
-      go (inr (m, y)) = absurd (omega (arith, in-lt fs ns Q q p (w .list .holds) m))
+      same : (F : Forest ℕ) (x : ℕ) → (In c F → ⊥) → Linked n fs ns x F → Linked n fs (set ns c q) x F
+      same F x d = kept n fs ns fs (set ns c q) F x (λ j m. (refl, getD-set-other ns c j q 0 (λ e. d (rw e at m))))
 
-  pub placed-after : p < length ns → (m : ℕ) → m ≡ getD ns p 0 → (ns₁ ns₂ : List ℕ) → ns₁ ≡ set ns c m → ns₂ ≡ set ns₁ p c → Placed fs ns key c q ns₂ q
-  placed-after h m em ns₁ ns₂ e₁ e₂ = go landed
+      go : Landed p → PutAmong n fs ns key c q (set ns c q) c
+      go (inl (x, y)) = record {
+        linked = rw y (
+          refl,
+          w .inside,
+          same K (getD fs c 0) (w .apart .0) (w .kids .holds),
+          rw (getD-set-same ns c q 0 (omega (arith, w .inside, w .wide .nexts))) (same Q q (w .apart .1) (w .list .holds)),
+        );
+        low = omega (arith, w .inside, w .few);
+        rest = λ j jc jq. getD-set-other ns c j q 0 jc;
+      }
+      go (inr (m, y)) = absurd (omega (arith, in-lt n fs ns Q q p (w .list .holds) m))
+
+  pub placed-after : p < n → PutAmong n fs ns key c q (set (set ns c (getD ns p 0)) p c) q
+  placed-after h = go landed
     where
-      go : Lands fs ns key c K (w .inside) (w .kids .holds) (w .apart .0) q (length ns) Q p → Placed fs ns key c q ns₂ q
+      go : Landed p → PutAmong n fs ns key c q (set (set ns c (getD ns p 0)) p c) q
       go (inl (x, y)) = absurd (omega arith)
-      go (inr (mp, y)) = rw (e₂, e₁, em) (built (set (set ns c (getD ns p 0)) p c) q (w .low) (length-set (set ns c (getD ns p 0)) p c ∙ length-set ns c (getD ns p 0)) y
-          (λ j jc jq. getD-set-other (set ns c (getD ns p 0)) p j c 0 (λ x. jq (rw x mp)) ∙ getD-set-other ns c j (getD ns p 0) 0 jc))
+      go (inr (m, y)) = record {
+        linked = y;
+        low = w .low;
+        rest = λ j jc jq. getD-set-other (set ns c (getD ns p 0)) p j c 0 (λ x. jq (rw x m)) ∙ getD-set-other ns c j (getD ns p 0) 0 jc;
+      }
 
 -- ------------------------------------------------------------------ forests in order
 -- so is every row, with the number of its children
 abbrev pub Each : (ℕ → ℕ → Type 0) → Forest ℕ → Type 0
 Each P bare = Unit {0}
 Each P (tree i k r) = P i (width k) × Each P k × Each P r
-
-pub each-map : (P Q : ℕ → ℕ → Type 0) → ((i w : ℕ) → P i w → Q i w) → (F : Forest ℕ) → Each P F → Each Q F
-each-map P Q f bare h = tt
-each-map P Q f (tree i k r) (pi, pk, pr) = (f i (width k) pi, each-map P Q f k pk, each-map P Q f r pr)
 
 module _ (key : List ℕ) where
   pub in-orderedBy : (F : Forest ℕ) (j : ℕ) → In j (orderedBy key F) → In j F
@@ -191,28 +209,28 @@ module _ (key : List ℕ) where
   size-orderedBy bare = refl
   size-orderedBy (tree i k r) = let a = size-place key i (orderedBy key k) (orderedBy key r) in let b = size-orderedBy k in let d = size-orderedBy r in omega arith
 
-  pub apart-both : (i : ℕ) (k r : Forest ℕ) → Apart (orderedBy key k) → Apart (orderedBy key r) → Apart (tree i k r) → Apart (tree i (orderedBy key k) (orderedBy key r))
-  apart-both i k r sk sr (ik, ir, kr, ak, ar) = ((λ m. ik (in-orderedBy k i m)), (λ m. ir (in-orderedBy r i m)), (λ j m m′. kr j (in-orderedBy k j m) (in-orderedBy r j m′)), sk, sr)
-
-  pub apart-orderedBy : (F : Forest ℕ) → Apart F → Apart (orderedBy key F)
-  unfolding orderedBy
-  apart-orderedBy bare a = a
-  apart-orderedBy (tree i k r) a = apart-place key i (orderedBy key k) (orderedBy key r) (apart-both i k r (apart-orderedBy k (a .3)) (apart-orderedBy r (a .4)) a)
-
-  -- so does the number of brothers, and the number of each row's children
-  width-place : (i : ℕ) (k R : Forest ℕ) → width (placeBy key i k R) ≡ suc (width R)
-  unfolding placeBy
-  width-place i k bare = refl
-  width-place i k (tree j l r) = go (upTo (cmpT key i k j l)) (width-place i k r)
-    where
-      go : (t : Bool) → width (placeBy key i k r) ≡ suc (width r) → width (cond t (tree i k (tree j l r)) (tree j l (placeBy key i k r))) ≡ suc (suc (width r))
-      go true ih = refl
-      go false ih = ap suc ih
-
   pub width-orderedBy : (F : Forest ℕ) → width (orderedBy key F) ≡ width F
   unfolding orderedBy
   width-orderedBy bare = refl
-  width-orderedBy (tree i k r) = width-place i (orderedBy key k) (orderedBy key r) ∙ ap suc (width-orderedBy r)
+  width-orderedBy (tree i k r) = width-place key i (orderedBy key k) (orderedBy key r) ∙ ap suc (width-orderedBy r)
+
+  apart-parts : (i : ℕ) (k r : Forest ℕ) → Apart (orderedBy key k) → Apart (orderedBy key r) → Apart (tree i k r) → Apart (tree i (orderedBy key k) (orderedBy key r))
+  apart-parts i k r sk sr (ik, ir, kr, ak, ar) = (
+    (λ m. ik (in-orderedBy k i m)),
+    (λ m. ir (in-orderedBy r i m)),
+    (λ j m m′. kr j (in-orderedBy k j m) (in-orderedBy r j m′)),
+    sk,
+    sr,
+  )
+
+  apart-orderedBy : (F : Forest ℕ) → Apart F → Apart (orderedBy key F)
+  unfolding orderedBy
+  apart-orderedBy bare a = a
+  apart-orderedBy (tree i k r) a =
+      apart-place key i (orderedBy key k) (orderedBy key r) (apart-parts i k r (apart-orderedBy k (a .3)) (apart-orderedBy r (a .4)) a)
+
+  pub apart-both : (i : ℕ) (k r : Forest ℕ) → Apart (tree i k r) → Apart (tree i (orderedBy key k) (orderedBy key r))
+  apart-both i k r a = apart-parts i k r (apart-orderedBy k (a .3)) (apart-orderedBy r (a .4)) a
 
   each-place : (P : ℕ → ℕ → Type 0) (i : ℕ) (k R : Forest ℕ) → Each P (tree i k R) → Each P (placeBy key i k R)
   unfolding placeBy

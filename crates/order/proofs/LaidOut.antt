@@ -1,5 +1,5 @@
--- The turns of the loop that lays a forest out as rows; rows that show a forest are that forest, renumbered in image order.
-use mathlib.Core.Path.{_≡_, refl, sym, ap, _∙_}
+-- The turns of the loop that lays a tree out as rows; rows that show a forest are that forest, renumbered in image order.
+use mathlib.Core.Path.{_≡_, refl, ap, _∙_}
 use mathlib.Core.List.{List}
 use Prim.Native.Nat.{ℕ, suc, _+_, _-_, _*_, _%_, _<_, _≤_}
 use native.Mathlib.Numerals.{add-one}
@@ -7,250 +7,345 @@ use native.Mathlib.Omega.{arith}
 use native.Mathlib.Decide.{ℕ-discrete}
 use lib.ListN.{length, getD, set, length-set}
 use lib.Seq.{getD-set-same, getD-set-other}
+use Rattle.meaning.specs.Number.{largestLabel}
 use Rattle.meaning.specs.Tree.{Forest, bare, tree, size}
-use Rattle.rows.specs.Rows.{noRow, tagAt, mapT, Holds, width, Counted, Hung}
-use Rattle.order.specs.Links.{Finite, forestAt}
-use Rattle.order.specs.LaidOut.{Shows, Roomy, Laid, Borne}
-use Rattle.order.proofs.Links.{Opens, opens, read-none}
+use Rattle.rows.specs.Rows.{noRow, tagAt, shape, mapT, treeRows, Holds, width, Counted, Hung, Rows}
+use Rattle.rows.proofs.Rows.{holds-is}
+use Rattle.order.specs.Links.{forestAt, Linked, Listed}
+use Rattle.order.specs.Contract.{LaySpace, Tagged}
 
--- ------------------------------------------------------------------ one turn of lay
--- the rows that wait for the end of what lies below them, from the lowest up, each with its later brothers
+-- the five lists of the rows
+pub record Out : Type 0 where
+  pub code : List ℕ
+  pub mark : List ℕ
+  pub kids : List ℕ
+  pub span : List ℕ
+  pub up : List ℕ
+
+-- each is as long as it was
+pub record Long (o₀ o : Out) : Type 0 where
+  pub codes : length (o .code) ≡ length (o₀ .code)
+  pub marks : length (o .mark) ≡ length (o₀ .mark)
+  pub counts : length (o .kids) ≡ length (o₀ .kids)
+  pub spans : length (o .span) ≡ length (o₀ .span)
+  pub ups : length (o .up) ≡ length (o₀ .up)
+
+-- row `at` has the tag of row i of the table, and hangs from row u
+abbrev pub Bears : List ℕ → List ℕ → Out → ℕ → ℕ → ℕ → Type 0
+Bears code mark o at i u = (getD (o .code) at 0 ≡ getD code i 0) × (getD (o .mark) at 0 ≡ getD mark i 0) × (getD (o .up) at 0 ≡ u)
+
+-- from row `at` on the rows are those of the forest, whose brothers lie below row u
+abbrev pub Shows : List ℕ → List ℕ → Out → ℕ → ℕ → Forest ℕ → Type 0
+Shows code mark o u at bare = Unit {0}
+Shows code mark o u at (tree i k r) = Bears code mark o at i u × (getD (o .kids) at 0 ≡ width k) × (getD (o .span) at 0 ≡ suc (size k))
+    × Shows code mark o at (suc at) k × Shows code mark o u (suc at + size k) r
+
+-- ------------------------------------------------------------------ one turn
+-- the rows that wait for the end of what lies below them, from the lowest up, each with the number of its children and its later brothers
 pub data Above : Type 0 where
-  top : Above
-  below : ℕ → Forest ℕ → Above → Above
+  top : ℕ → Above
+  below : ℕ → ℕ → Forest ℕ → Above → Above
 
 -- the row below which the next rows come
 abbrev pub lowest : Above → ℕ
-lowest top = noRow
-lowest (below u r A) = u
+lowest (top w) = noRow
+lowest (below u w r A) = u
+
+-- how many children it will have; on top: how many tops
+abbrev pub wide : Above → ℕ
+wide (top w) = w
+wide (below u w r A) = w
 
 -- how many rows their later brothers will have
-abbrev left : Above → ℕ
-left top = 0
-left (below u r A) = size r + left A
+abbrev pub left : Above → ℕ
+left (top w) = 0
+left (below u w r A) = size r + left A
 
 -- row j is none of them
-abbrev Off : ℕ → Above → Type 0
-Off j top = Unit {0}
-Off j (below u r A) = (j ≡ u → ⊥) × Off j A
+abbrev pub Off : ℕ → Above → Type 0
+Off j (top w) = Unit {0}
+Off j (below u w r A) = (j ≡ u → ⊥) × Off j A
 
--- they stand before row `at`, each hangs below the next one, and their later brothers are the linked ones
-abbrev Waits : List ℕ → List ℕ → List ℕ → List ℕ → ℕ → Above → Type 0
-Waits fs ns row up at top = Unit {0}
-Waits fs ns row up at (below u r A) = (u < at) × (getD row u 0 < length ns) × (getD up u 0 ≡ lowest A)
-    × Finite fs ns (getD ns (getD row u 0) 0) × (forestAt fs ns (getD ns (getD row u 0) 0) ≡ r) × Waits fs ns row up u A
+-- they stand before row `at`, and each hangs below the next one; until its end, a row's span is its row in the table, whose later brothers are linked
+-- there, and its number of children is that of its earlier brothers
+abbrev pub Waits : ℕ → List ℕ → List ℕ → Out → ℕ → Above → Type 0
+Waits n fs ns o at (top w) = Unit {0}
+Waits n fs ns o at (below u w r A) = (u < at) × (getD (o .up) u 0 ≡ lowest A) × (getD (o .kids) u 0 ≤ u) × (getD (o .kids) u 0 + suc (width r) ≡ wide A)
+    × (getD (o .span) u 0 < n) × Linked n fs ns (getD ns (getD (o .span) u 0) 0) r × Waits n fs ns o u A
 
 -- their spans end at row e, and their later brothers follow there
-abbrev Follows : List ℕ → List ℕ → List ℕ → ℕ → Above → Type 0
-Follows row up span e top = Unit {0}
-Follows row up span e (below u r A) = (getD span u 0 ≡ e - u) × Shows row up span (lowest A) e r × Follows row up span (e + size r) A
+abbrev pub Follows : List ℕ → List ℕ → Out → ℕ → Above → Type 0
+Follows code mark o e (top w) = Unit {0}
+Follows code mark o e (below u w r A) = (getD (o .kids) u 0 ≡ w) × (getD (o .span) u 0 ≡ e - u) × Shows code mark o (lowest A) e r × Follows code mark o (e + size r) A
 
--- what was written before row `at` is kept: all but the spans of those that wait
-abbrev Keeps : List ℕ → List ℕ → List ℕ → List ℕ → List ℕ → List ℕ → ℕ → Above → Type 0
-Keeps row up span row′ up′ span′ at A = (j : ℕ) → j < at → (getD row′ j 0 ≡ getD row j 0) × (getD up′ j 0 ≡ getD up j 0) × (Off j A → getD span′ j 0 ≡ getD span j 0)
+-- what was written before row `at` is kept: all but the spans and the children of those that wait
+abbrev pub Keeps : Out → Out → ℕ → Above → Type 0
+Keeps o o′ at A = (j : ℕ) → j < at → (getD (o′ .code) j 0 ≡ getD (o .code) j 0) × (getD (o′ .mark) j 0 ≡ getD (o .mark) j 0) × (getD (o′ .up) j 0 ≡ getD (o .up) j 0)
+    × (Off j A → (getD (o′ .kids) j 0 ≡ getD (o .kids) j 0) × (getD (o′ .span) j 0 ≡ getD (o .span) j 0))
 
--- before row `at` the forest at c is laid out but for the forest at x, which comes next below row u, and for what waits: rows that show both show it
-pub record Laying (fs ns : List ℕ) (c : ℕ) (row₀ up₀ span₀ : List ℕ) (row up span : List ℕ) (at u x : ℕ) : Type 0 where
-  pub rows : length row ≡ length row₀
-  pub ups : length up ≡ length up₀
-  pub spans : length span ≡ length span₀
+-- before row `at` the forest F is laid out but for the forest at x, which comes next below row u, behind k brothers, and for what waits: rows that show
+-- both show it
+pub record Laying (code mark : List ℕ) (n : ℕ) (fs ns : List ℕ) (F : Forest ℕ) (o₀ o : Out) (at u x k : ℕ) : Type 0 where
+  pub long : Long o₀ o
+  pub next : Forest ℕ
   pub above : Above
   pub under : u ≡ lowest above
-  pub finite : Finite fs ns x
-  pub waits : Waits fs ns row up at above
-  pub total : at + size (forestAt fs ns x) + left above ≡ size (forestAt fs ns c)
-  pub closes : (row′ up′ span′ : List ℕ) → Keeps row up span row′ up′ span′ at above → Shows row′ up′ span′ u at (forestAt fs ns x)
-      → Follows row′ up′ span′ (at + size (forestAt fs ns x)) above → Shows row′ up′ span′ noRow 0 (forestAt fs ns c)
+  pub fit : u < 65536
+  pub linked : Linked n fs ns x next
+  pub waits : Waits n fs ns o at above
+  pub total : at + size next + left above ≡ n
+  pub counted : k + width next ≡ wide above
+  pub low : k ≤ at
+  pub tags : (j : ℕ) → j < at → (getD (o .code) j 0 ≤ suc largestLabel) × (getD (o .mark) j 0 ≤ 3)
+  pub closes : (o′ : Out) → Keeps o o′ at above → Shows code mark o′ u at next → Follows code mark o′ (at + size next) above → Shows code mark o′ noRow 0 F
 
 -- a row at or behind `at` does not wait
-off : (fs ns row up : List ℕ) (at j : ℕ) (A : Above) → Waits fs ns row up at A → at ≤ j → Off j A
-off fs ns row up at j top w h = tt
-off fs ns row up at j (below u r A) (l, a, b, c, d, w) h = ((λ e. omega arith), off fs ns row up u j A w (omega arith))
+off : (n : ℕ) (fs ns : List ℕ) (o : Out) (at j : ℕ) (A : Above) → Waits n fs ns o at A → at ≤ j → Off j A
+off n fs ns o at j (top w) v h = tt
+off n fs ns o at j (below u w r A) (l, a, b, c, d, e, v) h = ((λ e. omega arith), off n fs ns o u j A v (omega arith))
 
-waits-kept : (fs ns row up row′ up′ : List ℕ) (at at′ : ℕ) (A : Above) → at ≤ at′
-    → ((j : ℕ) → j < at → (getD row′ j 0 ≡ getD row j 0) × (getD up′ j 0 ≡ getD up j 0)) → Waits fs ns row up at A → Waits fs ns row′ up′ at′ A
-waits-kept fs ns row up row′ up′ at at′ top g h w = tt
-waits-kept fs ns row up row′ up′ at at′ (below u r A) g h (l, a, b, c, d, w) =
+waits-kept : (n : ℕ) (fs ns : List ℕ) (o o′ : Out) (at at′ : ℕ) (A : Above) → at ≤ at′
+    → ((j : ℕ) → j < at → (getD (o′ .up) j 0 ≡ getD (o .up) j 0) × (getD (o′ .kids) j 0 ≡ getD (o .kids) j 0) × (getD (o′ .span) j 0 ≡ getD (o .span) j 0))
+    → Waits n fs ns o at A → Waits n fs ns o′ at′ A
+waits-kept n fs ns o o′ at at′ (top w) g h v = tt
+waits-kept n fs ns o o′ at at′ (below u w r A) g h (l, a, b, c, d, e, v) =
     let z = h u l in
-    (omega arith, rw (z .0) a, z .1 ∙ b, rw (z .0) c, rw (z .0) d, waits-kept fs ns row up row′ up′ u u A (omega arith) (λ j m. h j (omega arith)) w)
+    (omega arith, z .0 ∙ a, rw (z .1) b, rw (z .1) c, rw (z .2) d, rw (z .2) e, waits-kept n fs ns o o′ u u A (omega arith) (λ j m. h j (omega arith)) v)
 
 -- the row above stands before `at`, or is none
-lowest-before : (fs ns row up : List ℕ) (at : ℕ) (A : Above) → Waits fs ns row up at A → at ≤ noRow → (lowest A < 65536) × ((lowest A + 1) % 65536 ≤ at)
-lowest-before fs ns row up at top w h = (omega arith, omega arith)
-lowest-before fs ns row up at (below u r A) (l, a, b, c, d, w) h = (omega arith, omega arith)
+lowest-before : (n : ℕ) (fs ns : List ℕ) (o : Out) (at : ℕ) (A : Above) → Waits n fs ns o at A → at ≤ noRow → (lowest A < 65536) × ((lowest A + 1) % 65536 ≤ at)
+lowest-before n fs ns o at (top w) v h = (omega arith, omega arith)
+lowest-before n fs ns o at (below u w r A) v h = (omega (arith, v .0), omega (arith, v .0))
 
 -- it falls at each turn: a row more is laid out, or the row above stands before the last one
-abbrev pub toGo : Forest ℕ → ℕ → ℕ → ℕ
-toGo F at u = 65536 * (size F - at) + (u + 1) % 65536
+abbrev pub toGo : ℕ → ℕ → ℕ → ℕ
+toGo n at u = 65536 * (n - at) + (u + 1) % 65536
 
-module _ (fs ns : List ℕ) (c : ℕ) (row₀ up₀ span₀ : List ℕ) (room : Roomy fs ns c row₀ up₀ span₀) where
-  abbrev F : Forest ℕ
-  F = forestAt fs ns c
+-- what is laid out
+abbrev pub whole : ℕ → List ℕ → List ℕ → Forest ℕ
+whole n fs ns = forestAt n fs ns (getD fs n 0)
 
-  pub laying-none : Laying fs ns c row₀ up₀ span₀ row₀ up₀ span₀ 0 noRow c
-  laying-none = record {
-    rows = refl;
-    ups = refl;
-    spans = refl;
-    above = top;
+module _ {code mark : List ℕ} {n : ℕ} {fs ns : List ℕ} {o₀ : Out}
+    (P : Tagged code mark n × Listed n fs ns × LaySpace n fs ns (o₀ .code) (o₀ .mark) (o₀ .kids) (o₀ .span) (o₀ .up)) where
+  pub laying-none : {c : ℕ} → c ≡ getD fs n 0 → Laying code mark n fs ns (whole n fs ns) o₀ o₀ 0 noRow c 0
+  laying-none e = record {
+    long = record { codes = refl; marks = refl; counts = refl; spans = refl; ups = refl };
+    next = whole n fs ns;
+    above = top (width (whole n fs ns));
     under = refl;
-    finite = room .finite;
+    fit = omega arith;
+    linked = rw e (P .1 .finite .holds);
     waits = tt;
-    total = omega arith;
-    closes = λ row′ up′ span′ h s t. s;
+    total = omega (arith, P .1 .all);
+    counted = omega arith;
+    low = omega arith;
+    tags = λ j l. absurd (omega arith);
+    closes = λ o′ h s t. s;
   }
 
-  module _ (row up span : List ℕ) (at u x : ℕ) (w : Laying fs ns c row₀ up₀ span₀ row up span at u x) where
-    pub low : u < 65536
-    low = rw (w .under) (lowest-before fs ns row up at (w .above) (w .waits) (omega (arith, w .total, room .few)) .0)
-
+  module _ {o : Out} {at u x k : ℕ} (w : Laying code mark n fs ns (whole n fs ns) o₀ o at u x k) where
     -- ------------------------------------------------------------ down to the first child
-    module _ (l : x < length ns) where
-      abbrev o : Opens fs ns x
-      o = opens fs ns x (w .finite) l
+    module _ (l : x < n) where
+      abbrev down : Out
+      down = record {
+        code = set (o .code) at (getD code x 0);
+        mark = set (o .mark) at (getD mark x 0);
+        kids = set (o .kids) at k;
+        span = set (o .span) at x;
+        up = set (o .up) at u;
+      }
 
-      abbrev K : Forest ℕ
-      K = forestAt fs ns (getD fs x 0)
+      more : (X : Forest ℕ) → Linked n fs ns x X → at + size X + left (w .above) ≡ n → at < n
+      more bare h t = absurd (omega arith)
+      more (tree i K Z) h t = omega arith
 
-      abbrev R : Forest ℕ
-      R = forestAt fs ns (getD ns x 0)
+      pub inside : at < n
+      inside = more (w .next) (w .linked) (w .total)
 
-      whole : size (forestAt fs ns x) ≡ suc (size K + size R)
-      whole = ap size (o .reads)
+      pub fits : (at < length (o .code)) × (at < length (o .mark)) × (at < length (o .kids)) × (at < length (o .span)) × (at < length (o .up))
+      fits = (
+        omega (arith, inside, P .2 .codes, w .long .codes),
+        omega (arith, inside, P .2 .marks, w .long .marks),
+        omega (arith, inside, P .2 .counts, w .long .counts),
+        omega (arith, inside, P .2 .spans, w .long .spans),
+        omega (arith, inside, P .2 .ups, w .long .ups),
+      )
 
-      more : at < size F
-      more = omega (arith, w .total, whole)
+      pub down-less : toGo n (at + 1) at < toGo n at u
+      down-less = omega (arith, inside, P .0 .few)
 
-      pub fits : (at < length row) × (at < length up) × (at + 1 < 65536)
-      fits = (omega (arith, more, room .rows, w .rows), omega (arith, more, room .ups, w .ups), omega (arith, more, room .few))
+      pub laying-down : {c : ℕ} → c ≡ getD fs x 0 → Laying code mark n fs ns (whole n fs ns) o₀ down (at + 1) at c 0
+      laying-down e = rw (add-one at, e) (go (w .next) (w .linked) (w .total) (w .counted) (w .closes))
+        where
+          before : (j : ℕ) → j < at → (getD (down .code) j 0 ≡ getD (o .code) j 0) × (getD (down .mark) j 0 ≡ getD (o .mark) j 0) × (getD (down .up) j 0 ≡ getD (o .up) j 0)
+              × (getD (down .kids) j 0 ≡ getD (o .kids) j 0) × (getD (down .span) j 0 ≡ getD (o .span) j 0)
+          before j h =
+              let d : j ≡ at → ⊥ = λ q. omega arith in (
+                getD-set-other (o .code) at j (getD code x 0) 0 d,
+                getD-set-other (o .mark) at j (getD mark x 0) 0 d,
+                getD-set-other (o .up) at j u 0 d,
+                getD-set-other (o .kids) at j k 0 d,
+                getD-set-other (o .span) at j x 0 d,
+              )
 
-      pub down-less : toGo F (at + 1) at < toGo F at u
-      down-less = omega (arith, more, room .few)
+          here : Bears code mark down at x u × (getD (down .kids) at 0 ≡ k) × (getD (down .span) at 0 ≡ x)
+          here = (
+            (
+              getD-set-same (o .code) at (getD code x 0) 0 (fits .0),
+              getD-set-same (o .mark) at (getD mark x 0) 0 (fits .1),
+              getD-set-same (o .up) at u 0 (fits .4),
+            ),
+            getD-set-same (o .kids) at k 0 (fits .2),
+            getD-set-same (o .span) at x 0 (fits .3),
+          )
 
-      module _ (row₁ up₁ : List ℕ) (er : row₁ ≡ set row at x) (eu : up₁ ≡ set up at u) (k : ℕ) (ek : k ≡ getD fs x 0) where
-        row-here : getD row₁ at 0 ≡ x
-        row-here = rw er (getD-set-same row at x 0 (fits .0))
+          tagged : (j : ℕ) → j < suc at → Dec (j ≡ at) → (getD (down .code) j 0 ≤ suc largestLabel) × (getD (down .mark) j 0 ≤ 3)
+          tagged j h (yes q) = rw (q, here .0 .0, here .0 .1) (P .0 .labels x l, P .0 .marked x l)
+          tagged j h (no q) = let b = before j (omega arith) in rw (b .0, b .1) (w .tags j (omega arith))
 
-        up-here : getD up₁ at 0 ≡ u
-        up-here = rw eu (getD-set-same up at u 0 (fits .1))
-
-        same : (j : ℕ) → j < at → (getD row₁ j 0 ≡ getD row j 0) × (getD up₁ j 0 ≡ getD up j 0)
-        same j h = (rw er (getD-set-other row at j x 0 (λ e. omega arith)), rw eu (getD-set-other up at j u 0 (λ e. omega arith)))
-
-        pub laying-down : Laying fs ns c row₀ up₀ span₀ row₁ up₁ span (at + 1) at k
-        laying-down = rw (add-one at, ek) (record {
-          rows = ap length er ∙ length-set row at x ∙ w .rows;
-          ups = ap length eu ∙ length-set up at u ∙ w .ups;
-          spans = w .spans;
-          above = below at R (w .above);
-          under = refl;
-          finite = o .down;
-          waits = (
-            omega arith,
-            rw row-here l,
-            up-here ∙ w .under,
-            rw row-here (o .along),
-            rw row-here refl,
-            waits-kept fs ns row up row₁ up₁ at at (w .above) (omega arith) same (w .waits),
-          );
-          total = omega (arith, w .total, whole);
-          closes = λ row′ up′ span′ h s t.
-              let y = h at (omega arith) in
-              let e : suc at + size K - at ≡ suc (size K) = omega arith in
-              let z : suc at + size K + size R ≡ at + size (forestAt fs ns x) = omega (arith, whole) in
-              w .closes row′ up′ span′
-              (λ j m. let v = h j (omega arith) in (v .0 ∙ same j m .0, v .1 ∙ same j m .1, λ f. v .2 ((λ q. omega arith), f)))
-              (rw (o .reads) (y .0 ∙ row-here, y .1 ∙ up-here, t .0 ∙ e, s, rw (← w .under) at (t .1)))
-              (rw z at (t .2));
-        })
+          go : (X : Forest ℕ) → Linked n fs ns x X → at + size X + left (w .above) ≡ n → k + width X ≡ wide (w .above)
+              → ((o′ : Out) → Keeps o o′ at (w .above) → Shows code mark o′ u at X → Follows code mark o′ (at + size X) (w .above) → Shows code mark o′ noRow 0 (whole n fs ns))
+              → Laying code mark n fs ns (whole n fs ns) o₀ down (suc at) at (getD fs x 0) 0
+          go bare h t q c = absurd (omega arith)
+          go (tree i K Z) (ei, li, hk, hz) t q c = record {
+            long = record {
+              codes = length-set (o .code) at (getD code x 0) ∙ w .long .codes;
+              marks = length-set (o .mark) at (getD mark x 0) ∙ w .long .marks;
+              counts = length-set (o .kids) at k ∙ w .long .counts;
+              spans = length-set (o .span) at x ∙ w .long .spans;
+              ups = length-set (o .up) at u ∙ w .long .ups;
+            };
+            next = K;
+            above = below at (width K) Z (w .above);
+            under = refl;
+            fit = omega (arith, inside, P .0 .few);
+            linked = rw ei hk;
+            waits = (
+              omega arith,
+              here .0 .2 ∙ w .under,
+              rw (here .1) (w .low),
+              rw (here .1) q,
+              rw (here .2) l,
+              rw (here .2, ei) hz,
+              waits-kept n fs ns o down at at (w .above) (omega arith) (λ j m. let b = before j m in (b .2, b .3, b .4)) (w .waits),
+            );
+            total = omega arith;
+            counted = omega arith;
+            low = omega arith;
+            tags = λ j m. tagged j m (ℕ-discrete j at);
+            closes = λ o′ h s f.
+                let y = h at (omega arith) in
+                let e : suc at + size K - at ≡ suc (size K) = omega arith in
+                let z : suc at + size K + size Z ≡ at + suc (size K + size Z) = omega arith in
+                c o′
+                (λ j m. let v = h j (omega arith) in let b = before j m in (
+                  v .0 ∙ b .0,
+                  v .1 ∙ b .1,
+                  v .2 ∙ b .2,
+                  λ g. let r = v .3 ((λ p. omega arith), g) in (r .0 ∙ b .3, r .1 ∙ b .4),
+                ))
+                (rw (← ei) ((y .0 ∙ here .0 .0, y .1 ∙ here .0 .1, y .2 ∙ here .0 .2), f .0, f .1 ∙ e, s, rw (← w .under) at (f .2)))
+                (rw z at (f .3));
+          }
 
     -- ------------------------------------------------------------ all below row u is laid out
-    module _ (h : length ns ≤ x) where
-      none : forestAt fs ns x ≡ bare
-      none = read-none fs ns x h
-
-      -- rows that show what follows show the whole forest
+    module _ (h : n ≤ x) where
       abbrev Closes : Above → Type 0
-      Closes A = (row′ up′ span′ : List ℕ) → Keeps row up span row′ up′ span′ at A → Follows row′ up′ span′ at A → Shows row′ up′ span′ noRow 0 F
+      Closes A = (o′ : Out) → Keeps o o′ at A → Follows code mark o′ at A → Shows code mark o′ noRow 0 (whole n fs ns)
 
-      closes : Closes (w .above)
-      closes row′ up′ span′ k t = w .closes row′ up′ span′ k (rw none tt) (let e : at + size (forestAt fs ns x) ≡ at = omega (arith, ap size none) in rw e t)
+      -- nothing comes next
+      record Ended (A : Above) : Type 0 where
+        total : at + left A ≡ n
+        counted : k ≡ wide A
+        closes : Closes A
 
-      total : at + left (w .above) ≡ size F
-      total = omega (arith, w .total, ap size none)
-
-      pub laid-all : u ≡ noRow → Laid fs ns c row₀ up₀ span₀ row up span at
-      laid-all e = go (w .above) (w .under) (w .waits) total closes
+      ended : Ended (w .above)
+      ended = go (w .next) (w .linked) (w .total) (w .counted) (w .closes)
         where
-          go : (A : Above) → u ≡ lowest A → Waits fs ns row up at A → at + left A ≡ size F → Closes A → Laid fs ns c row₀ up₀ span₀ row up span at
-          go top q v s k = record {
-            end = omega (arith, s);
-            shows = k row up span (λ j m. (refl, refl, λ f. refl)) tt;
-            rows = w .rows;
-            ups = w .ups;
-            spans = w .spans;
-          }
-          go (below v r A) q (m, a, b, d, f, y) s k = absurd (omega (arith, room .few, s, q, e, m))
+          go : (X : Forest ℕ) → Linked n fs ns x X → at + size X + left (w .above) ≡ n → k + width X ≡ wide (w .above)
+              → ((o′ : Out) → Keeps o o′ at (w .above) → Shows code mark o′ u at X → Follows code mark o′ (at + size X) (w .above) → Shows code mark o′ noRow 0 (whole n fs ns))
+              → Ended (w .above)
+          go (tree i K Z) (ei, li, hk, hz) t q c = absurd (omega arith)
+          go bare l t q c =
+              let z : at + 0 ≡ at = omega arith in
+              record { total = omega arith; counted = omega arith; closes = λ o′ g f. c o′ g tt (rw z f) }
 
-      -- row u gets its span, and its next brother comes next
+      pub laid-all : u ≡ noRow → (at ≡ n) × Shows code mark o noRow 0 (whole n fs ns)
+      laid-all e = go (w .above) (w .under) (w .waits) ended
+        where
+          go : (A : Above) → u ≡ lowest A → Waits n fs ns o at A → Ended A → (at ≡ n) × Shows code mark o noRow 0 (whole n fs ns)
+          go (top b) q v E = (omega (arith, E .total), E .closes o (λ j m. (refl, refl, refl, λ f. (refl, refl))) tt)
+          go (below v b r A) q y E = absurd (omega (arith, P .0 .few, E .total, y .0))
+
+      -- row u gets its span and its number of children, and its next brother comes next
+      abbrev climbed : Out
+      climbed = record { code = o .code; mark = o .mark; kids = set (o .kids) u k; span = set (o .span) u (at - u); up = o .up }
+
       pub record Climbs : Type 0 where
         pub before : u < at
-        pub fits : (u < length row) × (u < length up)
-        pub span-fits : (u < length span) × (at - u < 65536)
-        pub inside : getD row u 0 < length ns
-        pub up-less : toGo F at (getD up u 0) < toGo F at u
-        pub laying-on : (span₁ : List ℕ) → span₁ ≡ set span u (at - u) → Laying fs ns c row₀ up₀ span₀ row up span₁ at (getD up u 0) (getD ns (getD row u 0) 0)
+        pub fits : (u < length (o .kids)) × (u < length (o .span)) × (u < length (o .up))
+        pub short : (at - u < 65536) × (getD (o .kids) u 0 + 1 < 65536)
+        pub inside : getD (o .span) u 0 < n
+        pub up-less : toGo n at (getD (o .up) u 0) < toGo n at u
+        pub laying-on : Laying code mark n fs ns (whole n fs ns) o₀ climbed at (getD (o .up) u 0) (getD ns (getD (o .span) u 0) 0) (getD (o .kids) u 0 + 1)
 
       pub climbs : (u ≡ noRow → ⊥) → Climbs
-      climbs d = go (w .above) (w .under) (w .waits) total closes
+      climbs d = go (w .above) (w .under) (w .waits) ended
         where
-          go : (A : Above) → u ≡ lowest A → Waits fs ns row up at A → at + left A ≡ size F → Closes A → Climbs
-          go top q v s k = absurd (d q)
-          go (below v r A) q (m, i, p, f, g, y) s k =
-              let b = lowest-before fs ns row up v A y (omega (arith, room .few, s)) .1 in
+          go : (A : Above) → u ≡ lowest A → Waits n fs ns o at A → Ended A → Climbs
+          go (top b) q v E = absurd (d q)
+          go (below v b r A) q (m, p, a, c, i, f, y) E =
+              let s = E .total in
+              let z = lowest-before n fs ns o v A y (omega (arith, s, P .0 .few)) in
               let l : u < at = rw q m in
-              let ls : u < length span = omega (arith, s, room .spans, w .spans) in
+              let lk : u < length (o .kids) = omega (arith, s, P .2 .counts, w .long .counts) in
+              let ls : u < length (o .span) = omega (arith, s, P .2 .spans, w .long .spans) in
               record {
                 before = l;
-                fits = (omega (arith, s, room .rows, w .rows), omega (arith, s, room .ups, w .ups));
-                span-fits = (ls, omega (arith, s, room .few));
+                fits = (lk, ls, omega (arith, s, P .2 .ups, w .long .ups));
+                short = (omega (arith, s, P .0 .few), rw q (omega (arith, a, m, s, P .0 .few)));
                 inside = rw q i;
-                up-less = rw (q, p) (omega (arith, b, m, room .few, s));
-                laying-on = λ span₁ es. record {
-                  rows = w .rows;
-                  ups = w .ups;
-                  spans = ap length es ∙ length-set span u (at - u) ∙ w .spans;
+                up-less = rw (q, p) (omega (arith, z .1, m, s, P .0 .few));
+                laying-on = record {
+                  long = record {
+                    codes = w .long .codes;
+                    marks = w .long .marks;
+                    counts = length-set (o .kids) u k ∙ w .long .counts;
+                    spans = length-set (o .span) u (at - u) ∙ w .long .spans;
+                    ups = w .long .ups;
+                  };
+                  next = r;
                   above = A;
                   under = rw q p;
-                  finite = rw q f;
-                  waits = waits-kept fs ns row up row up v at A (omega (arith, m)) (λ j l. (refl, refl)) y;
-                  total = rw (q, g) (omega (arith, s));
-                  closes = λ row′ up′ span′ z t o.
-                      let e : getD span′ u 0 ≡ at - u = z u l .2 (rw q (off fs ns row up v v A y (omega arith))) ∙ rw es (getD-set-same span u (at - u) 0 ls) in
-                      k row′ up′ span′
-                      (λ j m. let z′ = z j m in (z′ .0, z′ .1, λ n. z′ .2 (n .1) ∙ rw es (getD-set-other span u j (at - u) 0 (λ a. n .0 (a ∙ q)))))
-                      (rw (← q) e, rw (q, p, g) at t, rw (q, g) at o);
+                  fit = rw (q, p) (z .0);
+                  linked = rw q f;
+                  waits =
+                      waits-kept n fs ns o climbed v at A (omega (arith, m))
+                      (λ j g. (refl, getD-set-other (o .kids) u j k 0 (λ e. omega arith), getD-set-other (o .span) u j (at - u) 0 (λ e. omega arith))) y;
+                  total = omega (arith, s);
+                  counted = rw q (omega (arith, c));
+                  low = rw q (omega (arith, a, m));
+                  tags = w .tags;
+                  closes = λ o′ g t j.
+                      let x = g u l .3 (rw q (off n fs ns o v v A y (omega arith))) in
+                      let ek : getD (o′ .kids) u 0 ≡ b = x .0 ∙ getD-set-same (o .kids) u k 0 lk ∙ E .counted in
+                      let es : getD (o′ .span) u 0 ≡ at - u = x .1 ∙ getD-set-same (o .span) u (at - u) 0 ls in
+                      E .closes o′
+                      (λ i m′. let x′ = g i m′ in (
+                        x′ .0,
+                        x′ .1,
+                        x′ .2,
+                        λ e.
+                            let z′ = x′ .3 (e .1) in
+                            (z′ .0 ∙ getD-set-other (o .kids) u i k 0 (λ a′. e .0 (a′ ∙ q)), z′ .1 ∙ getD-set-other (o .span) u i (at - u) 0 (λ a′. e .0 (a′ ∙ q))),
+                      ))
+                      (rw (← q) ek, rw (← q) es, rw (q, p) at t, j);
                 };
               }
 
--- ------------------------------------------------------------------ what the rows bear
-pub borne-more : (row code mark count : List ℕ) (i : ℕ) (code′ mark′ kids : List ℕ) → Borne row code mark count i code′ mark′ kids
-    → i < length code′ → i < length mark′ → i < length kids → (c a b d : ℕ) → c ≡ getD row i 0 → a ≡ getD code c 0 → b ≡ getD mark c 0 → d ≡ getD count c 0
-    → (kids₁ : List ℕ) → kids₁ ≡ set kids i d → Borne row code mark count (i + 1) (set code′ i a) (set mark′ i b) kids₁
-borne-more row code mark count i code′ mark′ kids h lc lm lk c a b d ec ea eb ed kids₁ ek j lj = rw ek (go (ℕ-discrete j i))
-  where
-    go : Dec (j ≡ i) → (getD (set code′ i a) j 0 ≡ getD code (getD row j 0) 0) × (getD (set mark′ i b) j 0 ≡ getD mark (getD row j 0) 0) × (getD (set kids i d) j 0 ≡ getD count (getD row j 0) 0)
-    go (yes e) = rw e (
-      getD-set-same code′ i a 0 lc ∙ rw ec at ea,
-      getD-set-same mark′ i b 0 lm ∙ rw ec at eb,
-      getD-set-same kids i d 0 lk ∙ rw ec at ed,
-    )
-    go (no q) = let z = h j (omega arith) in
-        (getD-set-other code′ i j a 0 q ∙ z .0, getD-set-other mark′ i j b 0 q ∙ z .1, getD-set-other kids i j d 0 q ∙ z .2)
-
 -- ------------------------------------------------------------------ rows that show a forest
 -- the forest with its nodes numbered in image order
-abbrev pub numbered : ℕ → Forest ℕ → Forest ℕ
+abbrev numbered : ℕ → Forest ℕ → Forest ℕ
 numbered at bare = bare
 numbered at (tree i k r) = tree at (numbered (suc at) k) (numbered (suc at + size k) r)
 
@@ -258,36 +353,63 @@ size-numbered : (at : ℕ) (F : Forest ℕ) → size (numbered at F) ≡ size F
 size-numbered at bare = refl
 size-numbered at (tree i k r) = let x = size-numbered (suc at) k in let y = size-numbered (suc at + size k) r in omega arith
 
-pub width-numbered : (at : ℕ) (F : Forest ℕ) → width (numbered at F) ≡ width F
+width-numbered : (at : ℕ) (F : Forest ℕ) → width (numbered at F) ≡ width F
 width-numbered at bare = refl
 width-numbered at (tree i k r) = ap suc (width-numbered (suc at + size k) r)
 
-module _ (row up span : List ℕ) where
-  pub holds-shown : (u at e : ℕ) (F : Forest ℕ) → Shows row up span u at F → e ≡ at + size F → Holds span at e (numbered at F)
+module _ (code mark : List ℕ) (o : Out) where
+  holds-shown : (u at e : ℕ) (F : Forest ℕ) → Shows code mark o u at F → e ≡ at + size F → Holds (o .span) at e (numbered at F)
   holds-shown u at e bare s q = omega arith
-  holds-shown u at e (tree i k r) (a, b, c, d, f) q =
+  holds-shown u at e (tree i k r) (b, c, s, f, g) q =
       let z = size-numbered (suc at) k in
-      (refl, omega arith, rw z (holds-shown at (suc at) (suc at + size k) k d refl), rw z (holds-shown u (suc at + size k) e r f (omega arith)))
+      (refl, omega arith, rw z (holds-shown at (suc at) (suc at + size k) k f refl), rw z (holds-shown u (suc at + size k) e r g (omega arith)))
 
-  pub hung-shown : (u at : ℕ) (F : Forest ℕ) → Shows row up span u at F → Hung up u (numbered at F)
+  hung-shown : (u at : ℕ) (F : Forest ℕ) → Shows code mark o u at F → Hung (o .up) u (numbered at F)
   hung-shown u at bare s = tt
-  hung-shown u at (tree i k r) (a, b, c, d, f) = (b, hung-shown at (suc at) k d, hung-shown u (suc at + size k) r f)
+  hung-shown u at (tree i k r) (b, c, s, f, g) = (b .2, hung-shown at (suc at) k f, hung-shown u (suc at + size k) r g)
 
-  module _ (code mark count : List ℕ) (n : ℕ) (code′ mark′ kids : List ℕ) (B : Borne row code mark count n code′ mark′ kids) where
-    pub counted-shown : (u at : ℕ) (F : Forest ℕ) → Shows row up span u at F → at + size F ≤ n → Counted count F → Counted kids (numbered at F)
-    counted-shown u at bare s h c = tt
-    counted-shown u at (tree i k r) (a, b, s, d, f) h (c, ck, cr) = (
-      B at (omega arith) .2 ∙ rw (a, c) (sym (width-numbered (suc at) k)),
-      counted-shown at (suc at) k d (omega arith) ck,
-      counted-shown u (suc at + size k) r f (omega arith) cr,
-    )
+  counted-shown : (u at : ℕ) (F : Forest ℕ) → Shows code mark o u at F → Counted (o .kids) (numbered at F)
+  counted-shown u at bare s = tt
+  counted-shown u at (tree i k r) (b, c, s, f, g) =
+      (rw (width-numbered (suc at) k) c, counted-shown at (suc at) k f, counted-shown u (suc at + size k) r g)
 
-    pub tags-shown : (u at : ℕ) (F : Forest ℕ) → Shows row up span u at F → at + size F ≤ n → mapT (tagAt code′ mark′) (numbered at F) ≡ mapT (tagAt code mark) F
-    unfolding mapT
-    tags-shown u at bare s h = refl
-    tags-shown u at (tree i k r) (a, b, s, d, f) h =
-        let z = B at (omega arith) in
-        let x = tags-shown at (suc at) k d (omega arith) in
-        let y = tags-shown u (suc at + size k) r f (omega arith) in
-        let t : tagAt code′ mark′ at ≡ tagAt code mark i = rw (z .0, z .1, a) in
-        λ v. tree (t v) (x v) (y v)
+  tags-shown : (u at : ℕ) (F : Forest ℕ) → Shows code mark o u at F → mapT (tagAt (o .code) (o .mark)) (numbered at F) ≡ mapT (tagAt code mark) F
+  unfolding mapT
+  tags-shown u at bare s = refl
+  tags-shown u at (tree i k r) (b, c, s, f, g) =
+      let x = tags-shown at (suc at) k f in
+      let y = tags-shown u (suc at + size k) r g in
+      let t : tagAt (o .code) (o .mark) at ≡ tagAt code mark i = rw (b .0, b .1) in
+      λ v. tree (t v) (x v) (y v)
+
+shape-is : (span : List ℕ) (n : ℕ) (F : Forest ℕ) → Holds span 0 n F → shape span n ≡ F
+unfolding shape
+shape-is span n F h = holds-is n span 0 n F h (omega arith)
+
+-- when all is laid out, the rows are the tree
+module _ {code mark : List ℕ} {n : ℕ} {fs ns : List ℕ} {o₀ : Out}
+    (P : Tagged code mark n × Listed n fs ns × LaySpace n fs ns (o₀ .code) (o₀ .mark) (o₀ .kids) (o₀ .span) (o₀ .up))
+    {o : Out} {at u x k : ℕ} (w : Laying code mark n fs ns (whole n fs ns) o₀ o at u x k) where
+  pub laid-rows : n ≤ x → u ≡ noRow
+      → Rows (o .code) (o .mark) (o .kids) (o .span) (o .up) n × (treeRows (o .code) (o .mark) (o .span) n ≡ mapT (tagAt code mark) (whole n fs ns))
+  laid-rows h e =
+      let a = laid-all P w h e in
+      let F = whole n fs ns in
+      let held : Holds (o .span) 0 n (numbered 0 F) = holds-shown code mark o noRow 0 n F (a .1) (omega (arith, P .1 .all)) in
+      let is = shape-is (o .span) n (numbered 0 F) held in (
+        record {
+          few = P .0 .few;
+          codes = omega (arith, P .2 .codes, w .long .codes);
+          marks = omega (arith, P .2 .marks, w .long .marks);
+          counts = omega (arith, P .2 .counts, w .long .counts);
+          spans = omega (arith, P .2 .spans, w .long .spans);
+          ups = omega (arith, P .2 .ups, w .long .ups);
+          labels = λ j l. w .tags j (omega (arith, a .0)) .0;
+          marked = λ j l. w .tags j (omega (arith, a .0)) .1;
+          laid = rw is held;
+          counted = rw is (counted-shown code mark o noRow 0 F (a .1));
+          hung = rw is (hung-shown code mark o noRow 0 F (a .1));
+          single = rw (is, width-numbered 0 F) (P .1 .single);
+        },
+        unfold treeRows in rw is (tags-shown code mark o noRow 0 F (a .1)),
+      )

@@ -1,363 +1,264 @@
--- Parents before their children: below a row stand later rows only, so the lists of the rows before b are apart, and a row is put in its place among its
--- later brothers without a change to any other list.
+-- A row is put in its place among its later brothers without a change to any other list: one turn of the loop, and the tree that is read in the end.
 use mathlib.Core.Path.{_≡_, refl, sym, ap, _∙_}
-use mathlib.Core.Logic.{_⊎_, inl, inr}
-use mathlib.Core.List.{List, [], _∷_}
+use mathlib.Core.Logic.{inl, inr}
+use mathlib.Core.List.{List}
 use mathlib.Core.Bool.{true, false}
-use Prim.Native.Nat.{ℕ, zero, suc, _+_, _-_, _<_, _≤_}
+use Prim.Native.Nat.{ℕ, suc, _+_, _-_, _<_, _≤_}
 use native.Mathlib.Omega.{arith}
 use native.Mathlib.Decide.{ℕ-discrete}
 use lib.ListN.{length, getD, set, length-set}
 use lib.Seq.{getD-set-same, getD-set-other}
 use borrow.Author.Tests.{eq-eqb, ne-eqb}
-use Rattle.meaning.specs.Tree.{Forest, tree, size, plant}
-use Rattle.rows.specs.Rows.{noRow}
-use Rattle.rows.specs.Table.{childrenOf, grown, tableShape, TreeTable, ParentsFirst}
+use Rattle.meaning.specs.Tree.{Forest, bare, tree, size}
+use Rattle.rows.specs.Rows.{noRow, width, tagAt}
+use Rattle.rows.specs.Table.{tableShape, tableTree, TreeTable, ParentsFirst}
+use Rattle.rows.proofs.Rows.{lab-code, mark-code}
 use Rattle.order.specs.Keys.{keyOf}
-use Rattle.order.specs.Gathering.{Known, slotOf, Cleared}
-use Rattle.order.specs.Links.{forestAt, Linked, In, Apart, orderedBy, Ready, Placed}
+use Rattle.order.specs.Links.{slotOf, Known, forestAt, Linked, In, Apart, placeBy, orderedBy, Ready, PutAmong}
+use Rattle.order.specs.Gathering.{Cleared}
 use Rattle.order.specs.Sorting.{belowFrom, Sortable, Sorting, Sorted}
-use Rattle.order.proofs.Links.{read-is, finite-of}
-use Rattle.order.proofs.Inserting.{kept, in-orderedBy, size-orderedBy, apart-both, apart-orderedBy, order-agree}
-use Rattle.order.proofs.Growing.{Children, children-of, all-children, plant-lt, grown-lt, apart-plant, apart-grown, size-le}
-use Rattle.order.proofs.Gathering.{slot-row, slot-top, slot-le, SameSlot, same-slot, children-open, count-low, counts-turn, counts-none}
-use Rattle.order.proofs.TableOrder.{lev, levels, size-shape}
+use Rattle.order.proofs.Links.{slot-row, slot-top, slot-le, SameSlot, same-slot, read-is, finite-of}
+use Rattle.order.proofs.Inserting.{kept, in-orderedBy, size-orderedBy, width-orderedBy, apart-both, order-agree}
+use Rattle.order.proofs.Records.{Keyed, ordered-by}
+use Rattle.order.proofs.Below.{known-later, below-open, in-range, unique, apart-below, each-below, few-below, whole-below}
+use Rattle.order.proofs.QueryTable.{shape-all}
 
--- ------------------------------------------------------------------ rows below a row
-module _ (parent code mark : List ℕ) (n : ℕ) (T : TreeTable parent code mark n) (O : ParentsFirst parent n) where
-  -- the trees of these rows
-  abbrev trees : ℕ → List ℕ → Forest ℕ
-  trees m js = plant (λ j. j) (grown m parent n) js
+width-size : (F : Forest ℕ) → width F ≤ size F
+width-size bare = omega arith
+width-size (tree i k r) = let z = width-size r in omega arith
 
-  child-after : (p j : ℕ) → p < n → j < n → getD parent j 0 ≡ p → p < j
-  child-after p j lp lj e = go (ℕ-discrete j 0)
-    where
-      go : Dec (j ≡ 0) → p < j
-      go (yes q) =
-          let z : getD parent j 0 ≡ noRow = rw q (O .topFirst (omega arith)) in
-          absurd (omega (arith, T .few))
-      go (no q) = let z = O .lower j (omega arith) lj in omega arith
+-- every row's parent stands before it
+known : {parent : List ℕ} {n : ℕ} → ParentsFirst parent n → (i : ℕ) → i < n → Known i (getD parent i 0)
+known {parent} O i l = go (ℕ-discrete i 0)
+  where
+    go : Dec (i ≡ 0) → Known i (getD parent i 0)
+    go (yes e) = inr (rw e (O .topFirst (omega arith)))
+    go (no d) = inl (O .lower i (omega arith) l)
 
-  children-after : (p b : ℕ) (js : List ℕ) → p < n → Children parent p n b js → Children parent p n (suc p) js
-  children-after p b [] lp k = tt
-  children-after p b (j ∷ js) lp (l, u, e, k) = (child-after p j lp u e, u, e, k)
-
-  trees-from : (m p b : ℕ) (js : List ℕ) (x : ℕ) → ((j : ℕ) → j < n → In x (grown m parent n j) → j < x) → Children parent p n b js → In x (trees m js) → b ≤ x
-  trees-from m p b [] x g k h = absurd h
-  trees-from m p b (j ∷ js) x g (l, u, e, k) (inl h) = omega arith
-  trees-from m p b (j ∷ js) x g (l, u, e, k) (inr (inl h)) = let z = g j u h in omega arith
-  trees-from m p b (j ∷ js) x g (l, u, e, k) (inr (inr h)) = let z = trees-from m p (suc j) js x g k h in omega arith
-
-  grown-after : (m p x : ℕ) → p < n → In x (grown m parent n p) → p < x
-  unfolding grown
-  grown-after zero p x l h = absurd h
-  grown-after (suc m) p x l h =
-      trees-from m p (suc p) (childrenOf p parent n 0) x (λ j u. grown-after m j x u) (children-after p 0 (childrenOf p parent n 0) l (all-children parent n p)) h
-
-  -- the parent of a row in the trees of p's children is p, or is in them
-  climbs-trees : (m p b : ℕ) (js : List ℕ) (x : ℕ) → ((j : ℕ) → In x (grown m parent n j) → (getD parent x 0 ≡ j) ⊎ In (getD parent x 0) (grown m parent n j))
-      → Children parent p n b js → In x (trees m js) → (getD parent x 0 ≡ p) ⊎ In (getD parent x 0) (trees m js)
-  climbs-trees m p b [] x g k h = absurd h
-  climbs-trees m p b (j ∷ js) x g (l, u, e, k) (inl h) = inl (ap (λ (z : ℕ). getD parent z 0) h ∙ e)
-  climbs-trees m p b (j ∷ js) x g (l, u, e, k) (inr (inl h)) = go (g j h)
-    where
-      go : (getD parent x 0 ≡ j) ⊎ In (getD parent x 0) (grown m parent n j) → (getD parent x 0 ≡ p) ⊎ In (getD parent x 0) (trees m (j ∷ js))
-      go (inl q) = inr (inl q)
-      go (inr q) = inr (inr (inl q))
-  climbs-trees m p b (j ∷ js) x g (l, u, e, k) (inr (inr h)) = go (climbs-trees m p (suc j) js x g k h)
-    where
-      go : (getD parent x 0 ≡ p) ⊎ In (getD parent x 0) (trees m js) → (getD parent x 0 ≡ p) ⊎ In (getD parent x 0) (trees m (j ∷ js))
-      go (inl q) = inl q
-      go (inr q) = inr (inr (inr q))
-
-  climbs : (m p x : ℕ) → In x (grown m parent n p) → (getD parent x 0 ≡ p) ⊎ In (getD parent x 0) (grown m parent n p)
-  unfolding grown
-  climbs zero p x h = absurd h
-  climbs (suc m) p x h = climbs-trees m p 0 (childrenOf p parent n 0) x (λ j. climbs m j x) (all-children parent n p) h
-
-  -- ---------------------------------------------------------------- the lists of the rows before b
-  module _ (b : ℕ) (lb : b ≤ n) where
-    from : (p : ℕ) → Children parent p n b (childrenOf p parent (n - b) b)
-    from p = children-of parent p n (n - b) b (omega arith)
-
-    list-from : (p x : ℕ) → In x (belowFrom parent n b p) → b ≤ x
-    unfolding belowFrom
-    list-from p x h = trees-from n p b (childrenOf p parent (n - b) b) x (λ j u. grown-after n j x u) (from p) h
-
-    list-lt : (p x : ℕ) → In x (belowFrom parent n b p) → x < n
-    unfolding belowFrom
-    list-lt p x h =
-        let L = levels parent code mark n T in
-        plant-lt parent n (lev parent code mark n T) L n p b (childrenOf p parent (n - b) b) x (λ j. grown-lt parent n (lev parent code mark n T) L n j x) (from p) h
-
-    list-climbs : (p x : ℕ) → In x (belowFrom parent n b p) → (getD parent x 0 ≡ p) ⊎ In (getD parent x 0) (belowFrom parent n b p)
-    unfolding belowFrom
-    list-climbs p x h = climbs-trees n p b (childrenOf p parent (n - b) b) x (λ j. climbs n j x) (from p) h
-
-    -- the first row above x that stands before b, or no row, is only one
-    lists-apart : (k p q x : ℕ) → x < k → Known b p → Known b q → (p ≡ q → ⊥) → In x (belowFrom parent n b p) → In x (belowFrom parent n b q) → ⊥
-    lists-apart zero p q x l kp kq d h i = omega arith
-    lists-apart (suc k) p q x l kp kq d h i = go (list-climbs p x h) (list-climbs q x i) (λ y z u v. lists-apart k p q y z kp kq d u v)
-      where
-        y : ℕ
-        y = getD parent x 0
-
-        off : (r s : ℕ) → Known b r → y ≡ r → In y (belowFrom parent n b s) → ⊥
-        off r s (inl u) e m = let z = list-from s y m in omega arith
-        off r s (inr u) e m = let z = list-lt s y m in omega (arith, T .few)
-
-        go : (y ≡ p) ⊎ In y (belowFrom parent n b p) → (y ≡ q) ⊎ In y (belowFrom parent n b q)
-            → ((z : ℕ) → z < k → In z (belowFrom parent n b p) → In z (belowFrom parent n b q) → ⊥) → ⊥
-        go (inl u) (inl v) ih = d (sym u ∙ v)
-        go (inl u) (inr v) ih = off p q kp u v
-        go (inr u) (inl v) ih = off q p kq v u
-        go (inr u) (inr v) ih = ih y (let z = child-after y x (list-lt p y u) (list-lt p x h) refl in omega arith) u v
-
-  -- ---------------------------------------------------------------- the list of row j, when it is reached
-  trees-same : (f g : ℕ → Forest ℕ) (p b : ℕ) (js : List ℕ) → ((j : ℕ) → b ≤ j → j < n → f j ≡ g j) → Children parent p n b js
-      → plant (λ j. j) f js ≡ plant (λ j. j) g js
-  trees-same f g p b [] h k = refl
-  trees-same f g p b (j ∷ js) h (l, u, e, k) = rw (h j l u, trees-same f g p (suc j) js (λ i a c. h i (omega arith) c) k)
-
-  grown-more : (m p : ℕ) → p < n → n ≤ p + m → grown m parent n p ≡ grown (suc m) parent n p
-  unfolding grown
-  grown-more zero p l h = absurd (omega arith)
-  grown-more (suc m) p l h =
-      trees-same (grown m parent n) (grown (suc m) parent n) p (suc p) (childrenOf p parent n 0) (λ j a c. grown-more m j c (omega arith))
-      (children-after p 0 (childrenOf p parent n 0) l (all-children parent n p))
-
-  -- a rows that are no children of p
-  no-children : (p a k b : ℕ) → ((j : ℕ) → j < b + a → getD parent j 0 ≡ p → ⊥) → childrenOf p parent (a + k) b ≡ childrenOf p parent k (b + a)
-  unfolding childrenOf
-  no-children p zero k b d = let z : 0 + k ≡ k = omega arith in let y : b + 0 ≡ b = omega arith in rw (z, y)
-  no-children p (suc a) k b d =
-      let z : suc a + k ≡ suc (a + k) = omega arith in
-      let y : b + suc a ≡ suc b + a = omega arith in
-      rw (z, y, ne-eqb (getD parent b 0) p (d b (omega arith))) (no-children p a k (suc b) (λ j l. d j (omega arith)))
-
-  list-own : (j : ℕ) → j < n → belowFrom parent n (suc j) j ≡ grown n parent n j
-  unfolding belowFrom grown
-  list-own j l =
-      let z : suc j + (n - suc j) ≡ n = omega arith in
-      let y : 0 + suc j ≡ suc j = omega arith in
-      let e : childrenOf j parent n 0 ≡ childrenOf j parent (n - suc j) (suc j)
-      = rw (z, y) at (no-children j (suc j) (n - suc j) 0 (λ i u v. let w = child-after j i l (omega arith) v in omega arith)) in
-      rw (← e) (sym (grown-more n j l (omega arith)))
-
-  -- ---------------------------------------------------------------- row j reached: its list and that of its parent are apart
-  module _ (j : ℕ) (l : j < n) where
-    abbrev q : ℕ
-    q = getD parent j 0
-
-    abbrev K : Forest ℕ
-    K = belowFrom parent n (suc j) j
-
-    abbrev Q : Forest ℕ
-    Q = belowFrom parent n (suc j) q
-
-    q-known : Known j q
-    q-known = go (ℕ-discrete j 0)
-      where
-        go : Dec (j ≡ 0) → Known j q
-        go (yes e) = inr (rw e (O .topFirst (omega arith)))
-        go (no d) = inl (O .lower j (omega arith) l)
-
-    known-up : (b p : ℕ) → j ≤ b → Known j p → Known b p
-    known-up b p h (inl u) = inl (omega arith)
-    known-up b p h (inr u) = inr u
-
-    slot-off : (y : ℕ) → j ≤ y → y < n → y ≡ slotOf n q → ⊥
-    slot-off y a c e = go q-known
-      where
-        go : Known j q → ⊥
-        go (inl u) = let z = slot-row n q (omega arith) in omega arith
-        go (inr u) = let z = slot-top n q (omega (arith, T .few)) in omega arith
-
-    list-open : belowFrom parent n j q ≡ tree j K Q
-    list-open = rw (list-own j l) (unfold belowFrom in rw (children-open parent n j q l true (eq-eqb q q refl)))
-
-    list-same : (x : ℕ) → (q ≡ x → ⊥) → belowFrom parent n j x ≡ belowFrom parent n (suc j) x
-    unfolding belowFrom
-    list-same x d = rw (children-open parent n j x l false (ne-eqb q x d))
-
-    list-apart : Apart (belowFrom parent n j q)
-    unfolding belowFrom
-    list-apart =
-        let L = levels parent code mark n T in
-        apart-plant parent n (lev parent code mark n T) L n q j (childrenOf q parent (n - j) j) (apart-grown parent n (lev parent code mark n T) L n) (from j (omega arith) q)
-
-    all-apart : Apart (tree j K Q)
-    all-apart = rw list-open at list-apart
-
-    all-few : size (tree j K Q) ≤ n
-    all-few = size-le n (tree j K Q) all-apart (λ x m. list-lt j (omega arith) q x (rw list-open m))
+-- what lies below a row has at most n rows
+few : {parent code mark : List ℕ} {n : ℕ} → TreeTable parent code mark n → ParentsFirst parent n → (b k x : ℕ) → b + k ≡ n → Known b x
+    → size (belowFrom parent k b x) ≤ n
+few {parent} {n = n} T O b k x e kx =
+    let s : n ≤ noRow = omega (arith, T .few) in
+    omega (arith, few-below parent n (known O) s b k x e kx, ap size (whole-below parent n (known O) s), shape-all T .0)
 
 -- ------------------------------------------------------------------ the loop from the last row to the first
-pub sorting-none : (parent code mark : List ℕ) (n : ℕ) (fs ns count key : List ℕ) → length ns ≤ noRow → Cleared (n + 1) fs count
-    → Sorting parent code mark n n fs ns count key
-unfolding belowFrom childrenOf orderedBy
-sorting-none parent code mark n fs ns count key short h =
+pub sorting-none : {parent code mark : List ℕ} {n : ℕ} {fs ns key : List ℕ} → Sortable parent code mark n fs ns key → (fs′ ns′ : List ℕ) → Cleared (n + 1) fs′ ns′
+    → Sorting parent code mark n n fs′ ns′ key
+unfolding belowFrom orderedBy
+sorting-none {n = n} w fs′ ns′ h =
     let z : n - n ≡ 0 = omega arith in
+    let at : (p : ℕ) → (getD fs′ (slotOf n p) 0 ≡ noRow) × (getD ns′ (slotOf n p) 0 ≡ 0) = λ p. h (slotOf n p) (let s = slot-le n p in omega arith) in
     record {
-      lists = λ p k. rw z (let y = h (slotOf n p) (let s = slot-le n p in omega arith) .0 in omega arith);
-      counts = counts-none parent n fs count h;
+      lists = λ p k. rw z (omega (arith, at p .0, w .table .few));
+      counts = λ p k. rw z (at p .1);
       keys = λ i a b. absurd (omega arith);
     }
 
-pub sortable-kept : (parent code mark : List ℕ) (n : ℕ) (fs ns count key fs′ ns′ count′ key′ : List ℕ) → Sortable parent code mark n fs ns count key
-    → length fs′ ≡ length fs → length ns′ ≡ length ns → length count′ ≡ length count → length key′ ≡ length key → Sortable parent code mark n fs′ ns′ count′ key′
-sortable-kept parent code mark n fs ns count key fs′ ns′ count′ key′ w ef en ec ek = record {
-  table = w .table;
-  order = w .order;
-  firsts = rw ef (w .firsts);
-  nexts = rw en (w .nexts);
-  short = rw en (w .short);
-  counts = rw ec (w .counts);
-  wide = record { firsts = rw (ef, en) (w .wide .firsts); keys = rw (ek, en) (w .wide .keys) };
-}
+pub sortable-kept : {parent code mark : List ℕ} {n : ℕ} {fs ns key : List ℕ} → Sortable parent code mark n fs ns key → (fs′ ns′ key′ : List ℕ)
+    → length fs′ ≡ length fs → length ns′ ≡ length ns → length key′ ≡ length key → Sortable parent code mark n fs′ ns′ key′
+sortable-kept w fs′ ns′ key′ ef en ek =
+    record { table = w .table; order = w .order; firsts = rw ef (w .firsts); nexts = rw en (w .nexts); keys = rw ek (w .keys) }
 
 -- row j is reached, and s is the slot of its parent
-module _ (parent code mark : List ℕ) (n j : ℕ) (fs ns count key : List ℕ) (w : Sortable parent code mark n fs ns count key) (l : j < n)
-    (S : Sorting parent code mark n (suc j) fs ns count key) (s : ℕ) (es : s ≡ slotOf n (getD parent j 0)) where
+module _ {parent code mark : List ℕ} {n : ℕ} {fs ns key : List ℕ} (W : Sortable parent code mark n fs ns key)
+    (j : ℕ) (l : j < n) (S : Sorting parent code mark n (suc j) fs ns key) {s : ℕ} (es : s ≡ slotOf n (getD parent j 0)) where
   abbrev T : TreeTable parent code mark n
-  T = w .table
-
-  abbrev O : ParentsFirst parent n
-  O = w .order
+  T = W .table
 
   abbrev p : ℕ
   p = getD parent j 0
 
-  abbrev k : Forest ℕ
-  k = K parent code mark n T O j l
+  -- what lies below x from row b on
+  abbrev from : ℕ → ℕ → Forest ℕ
+  from b x = belowFrom parent (n - b) b x
 
-  abbrev r : Forest ℕ
-  r = Q parent code mark n T O j l
-
-  abbrev kp : Known j p
-  kp = q-known parent code mark n T O j l
+  kp : Known j p
+  kp = known (W .order) j l
 
   up : (b x : ℕ) → j ≤ b → Known j x → Known b x
-  up = known-up parent code mark n T O j l
+  up b x = known-later j b x
 
-  off : (y : ℕ) → j ≤ y → y < n → y ≡ s → ⊥
-  off y a b e = slot-off parent code mark n T O j l y a b (e ∙ es)
+  -- a slot of a row before j, or of no row, is none of the rows from j on
+  slot-off : (x y : ℕ) → Known j x → j ≤ y → y < n → y ≡ slotOf n x → ⊥
+  slot-off x y (inl u) a b e = let z = slot-row n x (omega arith) in omega arith
+  slot-off x y (inr u) a b e = let z = slot-top n x (omega (arith, T .few)) in omega arith
 
-  apart : Apart (tree j k r)
-  apart = all-apart parent code mark n T O j l
+  slot-fits : (s < length fs) × (s < length ns)
+  slot-fits = let z = slot-le n p in (omega (arith, W .firsts), omega (arith, W .nexts))
 
-  few : size (tree j k r) ≤ length ns
-  few = omega (arith, all-few parent code mark n T O j l, w .nexts)
+  one-more : n - j ≡ suc (n - suc j)
+  one-more = omega arith
 
-  pub slot-fits : (s < length fs) × (s < length count)
-  slot-fits = let z = slot-le n p in (omega (arith, w .firsts), omega (arith, w .counts))
+  list-open : from j p ≡ tree j (from (suc j) j) (from (suc j) p)
+  list-open = rw one-more (below-open parent (n - suc j) j p true (eq-eqb p p refl))
 
-  pub count-fits : (m : ℕ) → m ≡ getD count s 0 → m + 1 < 65536
-  count-fits m em = count-low parent n (suc j) count (S .counts) (T .few) p (up n p (omega arith) kp) s es m em
+  list-same : (x : ℕ) → (p ≡ x → ⊥) → from j x ≡ from (suc j) x
+  list-same x d = rw one-more (below-open parent (n - suc j) j x false (ne-eqb p x d))
+
+  apart : Apart (tree j (from (suc j) j) (from (suc j) p))
+  apart = rw list-open at (apart-below parent (n - j) j p (omega (arith, T .few)) kp)
+
+  room : size (tree j (from (suc j) j) (from (suc j) p)) ≤ n
+  room = rw list-open at (few T (W .order) j (n - j) p (omega arith) kp)
+
+  -- a row of these lists comes after j
+  later : (x y : ℕ) → In y (from (suc j) x) → (suc j ≤ y) × (y < n)
+  later x y m = let z = in-range parent (n - suc j) (suc j) x y m in (z .0, omega (arith, z .1))
+
+  count-here : getD ns j 0 ≡ width (from (suc j) j)
+  count-here = rw (← slot-row n j l) at (S .counts j (inl (omega arith)))
 
   -- v is its key, and h is the first of its later brothers
-  module _ (v h : ℕ) (eh : h ≡ getD fs s 0) where
+  module _ (v : ℕ) {h : ℕ} (eh : h ≡ getD fs s 0) where
     abbrev key′ : List ℕ
     key′ = set key j v
 
     -- the key of row j puts no later row elsewhere
-    same-order : (x : ℕ) → orderedBy key′ (belowFrom parent n (suc j) x) ≡ orderedBy key (belowFrom parent n (suc j) x)
-    same-order x = order-agree key key′ (belowFrom parent n (suc j) x) (λ y m. getD-set-other key j y v 0 (λ e. let z = list-from parent code mark n T O (suc j) l x y m in omega arith))
+    same-order : (x : ℕ) → orderedBy key′ (from (suc j) x) ≡ orderedBy key (from (suc j) x)
+    same-order x = order-agree key key′ (from (suc j) x) (λ y m. getD-set-other key j y v 0 (λ e. omega (arith, later x y m .0)))
 
-    linked-k : Linked fs ns (getD fs j 0) (orderedBy key′ k)
+    abbrev k : Forest ℕ
+    k = orderedBy key′ (from (suc j) j)
+
+    abbrev r : Forest ℕ
+    r = orderedBy key′ (from (suc j) p)
+
+    linked-k : Linked n fs ns (getD fs j 0) k
     linked-k = rw (same-order j) (rw (← slot-row n j l) at (S .lists j (inl (omega arith))))
 
-    linked-r : Linked fs ns h (orderedBy key′ r)
+    linked-r : Linked n fs ns h r
     linked-r = rw (same-order p, eh, es) (S .lists p (up (suc j) p (omega arith) kp))
 
-    small-k : size (orderedBy key′ k) ≤ length ns
-    small-k = rw (size-orderedBy key′ k) (omega (arith, few))
+    small-k : size k ≤ n
+    small-k = rw (size-orderedBy key′ (from (suc j) j)) (omega (arith, room))
 
-    small-r : size (orderedBy key′ r) ≤ length ns
-    small-r = rw (size-orderedBy key′ r) (omega (arith, few))
+    small-r : size r ≤ n
+    small-r = rw (size-orderedBy key′ (from (suc j) p)) (omega (arith, room))
 
-    k-is : forestAt fs ns (getD fs j 0) ≡ orderedBy key′ k
-    k-is = read-is fs ns (getD fs j 0) (orderedBy key′ k) linked-k small-k
+    k-is : forestAt n fs ns (getD fs j 0) ≡ k
+    k-is = read-is n fs ns (getD fs j 0) k linked-k small-k
 
-    r-is : forestAt fs ns h ≡ orderedBy key′ r
-    r-is = read-is fs ns h (orderedBy key′ r) linked-r small-r
+    r-is : forestAt n fs ns h ≡ r
+    r-is = read-is n fs ns h r linked-r small-r
 
-    pub row-ready : h < 65536 → Ready fs ns (set key j v) j h
+    pub row-ready : h < 65536 → Ready n fs ns (set key j v) j h
     row-ready low = record {
-      wide = record { firsts = w .wide .firsts; keys = rw (length-set key j v) (w .wide .keys) };
-      inside = omega (arith, w .nexts);
-      short = omega (arith, w .short);
+      few = T .few;
+      wide = record { firsts = omega (arith, W .firsts); nexts = omega (arith, W .nexts); keys = rw (length-set key j v) (W .keys) };
+      inside = l;
       low = low;
-      kids = finite-of fs ns (getD fs j 0) (orderedBy key′ k) linked-k small-k;
-      list = finite-of fs ns h (orderedBy key′ r) linked-r small-r;
-      apart = rw (k-is, r-is) (apart-both key′ j k r (apart-orderedBy key′ k (apart .3)) (apart-orderedBy key′ r (apart .4)) apart);
-      room = rw (k-is, r-is, size-orderedBy key′ k, size-orderedBy key′ r) few;
+      kids = finite-of n fs ns (getD fs j 0) k linked-k small-k;
+      list = finite-of n fs ns h r linked-r small-r;
+      apart = rw (k-is, r-is) (apart-both key′ j (from (suc j) j) (from (suc j) p) apart);
+      room = rw (k-is, r-is, size-orderedBy key′ (from (suc j) j), size-orderedBy key′ (from (suc j) p)) room;
     }
 
-    module _ (ev : v ≡ keyOf (getD code j 0) (getD mark j 0) (getD count j 0)) (ns′ : List ℕ) (f : ℕ) (P : Placed fs ns (set key j v) j h ns′ f)
-        (m : ℕ) (em : m ≡ getD count s 0) (fs′ count′ : List ℕ) (ef : fs′ ≡ set fs s f) (ec : count′ ≡ set count s (m + 1)) where
-      -- rows from j on keep their first child
-      same-first : (y : ℕ) → j ≤ y → y < n → getD fs′ y 0 ≡ getD fs y 0
-      same-first y a b = rw ef (getD-set-other fs s y f 0 (off y a b))
+    module _ {ns′ : List ℕ} {f : ℕ} (P : PutAmong n fs ns (set key j v) j h ns′ f) where
+      -- only rows of the list were linked anew
+      same-next : (y : ℕ) → (y ≡ j → ⊥) → (In y (from (suc j) p) → ⊥) → getD ns′ y 0 ≡ getD ns y 0
+      same-next y a b = P .rest y a (λ m. b (in-orderedBy key′ (from (suc j) p) y (rw r-is at m)))
 
-      placed-is : orderedBy key′ (belowFrom parent n j p) ≡ forestAt fs ns′ f
-      placed-is = rw (list-open parent code mark n T O j l, P .reads, k-is, r-is) (unfold orderedBy in refl)
+      same-slots : (x : ℕ) → Known j x → getD ns′ (slotOf n x) 0 ≡ getD ns (slotOf n x) 0
+      same-slots x kx =
+          same-next (slotOf n x) (λ e. slot-off x j kx (omega arith) l (sym e)) (λ m. let z = later p (slotOf n x) m in slot-off x (slotOf n x) kx (omega (arith, z .0)) (z .1) refl)
 
-      placed : Linked fs′ ns′ f (orderedBy key′ (belowFrom parent n j p))
-      placed =
-          rw placed-is (
-          kept fs ns′ fs′ ns′ refl (forestAt fs ns′ f) f
-          (λ y i.
-          let i′ = in-orderedBy key′ (belowFrom parent n j p) y (rw placed-is i) in
-          (same-first y (list-from parent code mark n T O j (omega arith) p y i′) (list-lt parent code mark n T O j (omega arith) p y i′), refl))
-          (P .finite .holds)
-          )
+      count-is : getD ns′ s 0 ≡ width (from (suc j) p)
+      count-is = rw es (same-slots p kp ∙ S .counts p (up (suc j) p (omega arith) kp))
 
-      other : (x : ℕ) → Known j x → (p ≡ x → ⊥) → Linked fs′ ns′ (getD fs (slotOf n x) 0) (orderedBy key′ (belowFrom parent n j x))
-      other x kx d =
-          let b = belowFrom parent n (suc j) x in
-          rw (list-same parent code mark n T O j l x d) (
-          kept fs ns fs′ ns′ (P .nexts) (orderedBy key′ b) (getD fs (slotOf n x) 0)
-          (λ y i.
-          let i′ = in-orderedBy key′ b y i in
-          let a = list-from parent code mark n T O (suc j) l x y i′ in
-          let c = list-lt parent code mark n T O (suc j) l x y i′ in (
-            same-first y (omega arith) c,
-            P .rest y (λ e. omega arith) (λ o. lists-apart parent code mark n T O (suc j) l (suc y) x p y (omega arith) (up (suc j) x (omega arith) kx) (up (suc j) p (omega arith) kp)
-                (λ e. d (sym e)) i′ (in-orderedBy key′ r y (rw r-is at o))),
-          ))
-          (rw (same-order x) (S .lists x (up (suc j) x (omega arith) kx)))
-          )
+      pub count-fits : getD ns′ s 0 + 1 < 65536
+      count-fits = omega (arith, count-is, width-size (from (suc j) p), few T (W .order) (suc j) (n - suc j) p (omega arith) (up (suc j) p (omega arith) kp), T .few)
 
-      pub sorting-turn : Sorting parent code mark n j fs′ ns′ count′ (set key j v)
-      sorting-turn = record {
-        lists = λ x kx. list x kx (same-slot n x p s (omega (arith, T .few)) (up n x (omega arith) kx) (up n p (omega arith) kp) es);
-        counts = counts-turn parent n j (omega (arith, T .few)) l (up n p (omega arith) kp) s es count (S .counts) (slot-fits .1) m em count′ ec;
-        keys = λ i a b. rw (ec, getD-set-other count s i (m + 1) 0 (off i a b)) (keyed i a b (ℕ-discrete i j));
-      }
-        where
-          keyed : (i : ℕ) → j ≤ i → i < n → Dec (i ≡ j) → getD key′ i 0 ≡ keyOf (getD code i 0) (getD mark i 0) (getD count i 0)
-          keyed i a b (yes e) = rw e (getD-set-same key j v 0 (omega (arith, w .nexts, w .wide .keys)) ∙ ev)
-          keyed i a b (no d) = getD-set-other key j i v 0 d ∙ S .keys i (omega arith) b
+      module _ (ev : v ≡ keyOf (getD code j 0) (getD mark j 0) (getD ns j 0)) (len : length ns′ ≡ length ns) where
+        abbrev fs″ : List ℕ
+        fs″ = set fs s f
 
-          list : (x : ℕ) → Known j x → SameSlot n x p s → Linked fs′ ns′ (getD fs′ (slotOf n x) 0) (orderedBy key′ (belowFrom parent n j x))
-          list x kx (inl (e, u)) = rw (u, e, ef, getD-set-same fs s f 0 (slot-fits .0)) (rw ef at placed)
-          list x kx (inr (d, u)) = rw (ef, getD-set-other fs s (slotOf n x) f 0 u) (rw ef at (other x kx d))
+        abbrev ns″ : List ℕ
+        ns″ = set ns′ s (getD ns′ s 0 + 1)
+
+        -- rows from j on keep their links
+        same : (y : ℕ) → j ≤ y → y < n → (getD fs″ y 0 ≡ getD fs y 0) × (getD ns″ y 0 ≡ getD ns′ y 0)
+        same y a b =
+            let d : y ≡ s → ⊥ = λ e. slot-off p y kp a b (e ∙ es) in
+            (getD-set-other fs s y f 0 d, getD-set-other ns′ s y (getD ns′ s 0 + 1) 0 d)
+
+        placed : Linked n fs″ ns″ f (orderedBy key′ (from j p))
+        placed =
+            let e : orderedBy key′ (from j p) ≡ placeBy key′ j k r = rw list-open (unfold orderedBy in refl) in
+            kept n fs ns′ fs″ ns″ (orderedBy key′ (from j p)) f
+            (λ y m. let z = in-range parent (n - j) j p y (in-orderedBy key′ (from j p) y m) in same y (z .0) (omega (arith, z .1)))
+            (rw e (rw (k-is, r-is) at (P .linked)))
+
+        others : (x : ℕ) → Known j x → (p ≡ x → ⊥) → Linked n fs″ ns″ (getD fs (slotOf n x) 0) (orderedBy key′ (from j x))
+        others x kx d =
+            let kx′ = up (suc j) x (omega arith) kx in
+            rw (list-same x d) (
+            kept n fs ns fs″ ns″ (orderedBy key′ (from (suc j) x)) (getD fs (slotOf n x) 0)
+            (λ y m.
+            let i = in-orderedBy key′ (from (suc j) x) y m in let z = later x y i in let e = same y (omega (arith, z .0)) (z .1) in (
+              e .0,
+              e .1 ∙ same-next y (λ q. omega (arith, z .0))
+                  (λ o. d (sym (unique parent (n - suc j) (suc j) x p y (omega (arith, T .few)) kx′ (up (suc j) p (omega arith) kp) i o))),
+            ))
+            (rw (same-order x) (S .lists x kx′))
+            )
+
+        pub sorting-turn : Sorting parent code mark n j (set fs s f) (set ns′ s (getD ns′ s 0 + 1)) (set key j v)
+        sorting-turn = record {
+          lists = λ x kx. list x kx (side x kx);
+          counts = λ x kx. count x kx (side x kx);
+          keys = λ i a b. keyed i a b (ℕ-discrete i j);
+        }
+          where
+            side : (x : ℕ) → Known j x → SameSlot n x p s
+            side x kx = same-slot n x p s (omega (arith, T .few)) (up n x (omega arith) kx) (up n p (omega arith) kp) es
+
+            list : (x : ℕ) → Known j x → SameSlot n x p s → Linked n fs″ ns″ (getD fs″ (slotOf n x) 0) (orderedBy key′ (from j x))
+            list x kx (inl (e, u)) = rw (u, e, getD-set-same fs s f 0 (slot-fits .0)) placed
+            list x kx (inr (d, u)) = rw (getD-set-other fs s (slotOf n x) f 0 u) (others x kx d)
+
+            count : (x : ℕ) → Known j x → SameSlot n x p s → getD ns″ (slotOf n x) 0 ≡ width (from j x)
+            count x kx (inl (e, u)) = rw (u, e, getD-set-same ns′ s (getD ns′ s 0 + 1) 0 (omega (arith, slot-fits .1)), list-open) (omega (arith, count-is))
+            count x kx (inr (d, u)) =
+                rw (getD-set-other ns′ s (slotOf n x) (getD ns′ s 0 + 1) 0 u, list-same x d) (same-slots x kx ∙ S .counts x (up (suc j) x (omega arith) kx))
+
+            keyed : (i : ℕ) → j ≤ i → i < n → Dec (i ≡ j) → getD key′ i 0 ≡ keyOf (getD code i 0) (getD mark i 0) (width (from (suc i) i))
+            keyed i a b (yes e) = rw e (getD-set-same key j v 0 (omega (arith, W .keys)) ∙ ev ∙ ap (keyOf (getD code j 0) (getD mark j 0)) count-here)
+            keyed i a b (no d) = getD-set-other key j i v 0 d ∙ S .keys i (omega arith) b
 
 -- ------------------------------------------------------------------ the whole tree
-whole-from : (parent : List ℕ) (n : ℕ) → belowFrom parent n 0 noRow ≡ tableShape parent n
-unfolding belowFrom tableShape grown
-whole-from parent n = let z : n - 0 ≡ n = omega arith in rw z
+module _ {parent code mark : List ℕ} {n : ℕ} {fs ns key : List ℕ} (T : TreeTable parent code mark n) (O : ParentsFirst parent n)
+    (S : Sorting parent code mark n 0 fs ns key) where
+  abbrev F : Forest ℕ
+  F = orderedBy key (tableShape parent n)
 
-pub sorted-all : (parent code mark : List ℕ) (n : ℕ) (fs ns count key : List ℕ) → Sortable parent code mark n fs ns count key
-    → Sorting parent code mark n 0 fs ns count key → Sorted parent code mark n fs ns count key
-sorted-all parent code mark n fs ns count key w S =
-    let F = orderedBy key (tableShape parent n) in
-    let h : Linked fs ns (getD fs n 0) F = rw (← slot-top n noRow (omega (arith, w .table .few)), whole-from parent n) at (S .lists noRow (inr refl)) in
-    let s : size F ≤ length ns = rw (size-orderedBy key (tableShape parent n), size-shape parent code mark n (w .table)) (w .nexts) in
-    record {
-      reads = read-is fs ns (getD fs n 0) F h s;
-      finite = finite-of fs ns (getD fs n 0) F h s;
-      counts = S .counts;
-      keys = λ i l. S .keys i (omega arith) l;
-    }
+  whole : belowFrom parent n 0 noRow ≡ tableShape parent n
+  whole = sym (whole-below parent n (known O) (omega (arith, T .few)))
+
+  keyed : (i k : ℕ) → suc i + k ≡ n → Keyed key (tagAt code mark) i (width (belowFrom parent k (suc i) i))
+  keyed i k e =
+      let z : n - suc i ≡ k = omega arith in
+      let a = lab-code (getD code i 0) in
+      let b = mark-code (getD mark i 0) (T .marked i (omega arith)) in
+      let s = few T O (suc i) k i e (inl (omega arith)) in
+      record {
+        is = rw (a, b) (rw z at (S .keys i (omega arith) (omega arith)));
+        low = rw a (omega (arith, T .labels i (omega arith)));
+        few = omega (arith, width-size (belowFrom parent k (suc i) i), s, T .few);
+      }
+
+  pub sorted-all : Sorted parent code mark n fs ns
+  sorted-all =
+      let z : n - 0 ≡ n = omega arith in
+      let h : Linked n fs ns (getD fs n 0) F = rw (← slot-top n noRow (omega (arith, T .few)), z, whole) at (S .lists noRow (inr refl)) in
+      let s : size F ≡ n = size-orderedBy key (tableShape parent n) ∙ shape-all T .0 in
+      let e = read-is n fs ns (getD fs n 0) F h (omega arith) in
+      let k = rw whole at (each-below parent (Keyed key (tagAt code mark)) n n 0 noRow (omega arith) keyed) in
+      record {
+        listed = record {
+          finite = finite-of n fs ns (getD fs n 0) F h (omega arith);
+          all = rw e s;
+          single = rw (e, width-orderedBy key (tableShape parent n)) (shape-all T .1);
+        };
+        reads = rw e (unfold tableTree in ordered-by key (tagAt code mark) (tableShape parent n) k);
+      }

@@ -1,22 +1,24 @@
 -- One number for each row, its key: rows compare by their keys as the first three numbers of their records compare byte by byte.
 -- Byte order is not number order: the labels 127, 255, 128 stand in this order.
-use mathlib.Core.Path.{_≡_}
-use mathlib.Core.Bool.{cond}
-use mathlib.Core.List.{List}
-use Prim.Native.Nat.{ℕ, _+_, _*_, _/_, _%_, _<_}
-use lib.ListN.{getD}
-use lib.Dec.{ltb}
+use mathlib.Core.List.{List, [], _∷_}
+use Prim.Native.Nat.{ℕ, zero, suc, _+_, _*_}
+use Rattle.meaning.specs.Number.{num}
 
--- the bytes of a number below 128 * 128 * 128, filled up to three, as one number
-unfoldable pub written : ℕ → ℕ
-written n =
-    cond (ltb n 128) (65536 * n)
-    (cond (ltb n 16384) (65536 * (128 + n % 128) + 256 * (n / 128)) (65536 * (128 + n % 128) + 256 * (128 + n / 128 % 128) + n / 16384))
+-- what the first of k + 1 bytes weighs
+abbrev pub weight : ℕ → ℕ
+weight zero = 1
+weight (suc k) = 256 * weight k
+
+-- at most k bytes, filled up to k, as one number
+unfoldable pub filled : ℕ → List ℕ → ℕ
+filled zero bs = 0
+filled (suc k) [] = 0
+filled (suc k) (b ∷ bs) = b * weight k + filled k bs
+
+-- a number below 128 * 128 * 128 has at most three bytes
+unfoldable pub threeBytes : ℕ → ℕ
+threeBytes n = filled 3 (num n)
 
 -- the key of a row with label code l, mark m (one byte) and c children
 unfoldable pub keyOf : ℕ → ℕ → ℕ → ℕ
-keyOf l m c = (written l * 256 + m) * 16777216 + written c
-
--- the first b rows have their keys
-abbrev pub Keys : List ℕ → List ℕ → List ℕ → ℕ → List ℕ → Type 0
-Keys code mark count b key = (i : ℕ) → i < b → getD key i 0 ≡ keyOf (getD code i 0) (getD mark i 0) (getD count i 0)
+keyOf l m c = (threeBytes l * 256 + m) * 16777216 + threeBytes c

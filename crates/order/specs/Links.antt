@@ -1,5 +1,6 @@
--- Forests as links: `first` (fs) has for each row its first child, `next` (ns) its next brother. A link that is not below the length of `next` leads
--- nowhere. Rows are compared by their keys, and brothers put in order by insertion, as `place` and `ordered` of Image do it by records.
+-- Forests as links: `first` (fs) has for each row its first child, `next` (ns) its next brother, and behind the n rows there is one more slot in
+-- `first`, for the top, which has no parent. A link that is not below n leads nowhere. Rows are compared by their keys, and brothers put in order by
+-- insertion, as `place` and `ordered` of Image do it by records.
 use mathlib.Core.Path.{_≡_}
 use mathlib.Core.Logic.{_⊎_}
 use mathlib.Core.List.{List}
@@ -7,23 +8,33 @@ use mathlib.Core.Bool.{Bool, true, false, cond}
 use Prim.Native.Nat.{ℕ, zero, suc, _<_, _≤_, max}
 use lib.ListN.{length, getD}
 use lib.Dec.{ltb}
+use Rattle.meaning.specs.Limits.{mostNodes}
 use Rattle.meaning.specs.Tree.{Forest, bare, tree, size}
+use Rattle.rows.specs.Rows.{width, noRow}
 use Rattle.order.specs.declared.brothers.Order.{Order}
 use Rattle.order.specs.declared.brothers.Order.the-variants.{Before, Same, After}
 
+-- where the list of p's children starts
+abbrev pub slotOf : ℕ → ℕ → ℕ
+slotOf n p = cond (ltb p n) p n
+
+-- p is a row before row b, or stands for no parent
+abbrev pub Known : ℕ → ℕ → Type 0
+Known b p = (p < b) ⊎ (p ≡ noRow)
+
 -- the forest whose first tree stands at row c, at most m links deep
-unfoldable pub forestFrom : ℕ → List ℕ → List ℕ → ℕ → Forest ℕ
-forestFrom zero fs ns c = bare
-forestFrom (suc m) fs ns c = cond (ltb c (length ns)) (tree c (forestFrom m fs ns (getD fs c 0)) (forestFrom m fs ns (getD ns c 0))) bare
+unfoldable pub forestFrom : ℕ → ℕ → List ℕ → List ℕ → ℕ → Forest ℕ
+forestFrom zero n fs ns c = bare
+forestFrom (suc m) n fs ns c = cond (ltb c n) (tree c (forestFrom m n fs ns (getD fs c 0)) (forestFrom m n fs ns (getD ns c 0))) bare
 
 -- no forest has more links than rows
-unfoldable pub forestAt : List ℕ → List ℕ → ℕ → Forest ℕ
-forestAt fs ns c = forestFrom (length ns) fs ns c
+unfoldable pub forestAt : ℕ → List ℕ → List ℕ → ℕ → Forest ℕ
+forestAt n fs ns c = forestFrom n n fs ns c
 
 -- the links at c and below are exactly those of the forest
-abbrev pub Linked : List ℕ → List ℕ → ℕ → Forest ℕ → Type 0
-Linked fs ns c bare = length ns ≤ c
-Linked fs ns c (tree i k r) = (c ≡ i) × (i < length ns) × Linked fs ns (getD fs i 0) k × Linked fs ns (getD ns i 0) r
+abbrev pub Linked : ℕ → List ℕ → List ℕ → ℕ → Forest ℕ → Type 0
+Linked n fs ns c bare = n ≤ c
+Linked n fs ns c (tree i k r) = (c ≡ i) × (i < n) × Linked n fs ns (getD fs i 0) k × Linked n fs ns (getD ns i 0) r
 
 -- the number of levels of a forest
 unfoldable pub height : {A : Type 0} → Forest A → ℕ
@@ -41,14 +52,21 @@ Apart bare = Unit {0}
 Apart (tree i k r) = (In i k → ⊥) × (In i r → ⊥) × ((j : ℕ) → In j k → In j r → ⊥) × Apart k × Apart r
 
 -- c is the start of a finite forest
-pub record Finite (fs ns : List ℕ) (c : ℕ) : Type 0 where
-  pub holds : Linked fs ns c (forestAt fs ns c)
-  pub small : size (forestAt fs ns c) ≤ length ns
+pub record Finite (n : ℕ) (fs ns : List ℕ) (c : ℕ) : Type 0 where
+  pub holds : Linked n fs ns c (forestAt n fs ns c)
+  pub small : size (forestAt n fs ns c) ≤ n
 
--- every row has its place in the lists beside `next`
-pub record Wide (fs ns key : List ℕ) : Type 0 where
-  pub firsts : length ns ≤ length fs
-  pub keys : length ns ≤ length key
+-- every row has its place in the lists
+pub record Wide (n : ℕ) (fs ns key : List ℕ) : Type 0 where
+  pub firsts : n ≤ length fs
+  pub nexts : n ≤ length ns
+  pub keys : n ≤ length key
+
+-- at the last slot a tree of n rows is read; no rows are the empty tree
+pub record Listed (n : ℕ) (fs ns : List ℕ) : Type 0 where
+  pub finite : Finite n fs ns (getD fs n 0)
+  pub all : size (forestAt n fs ns (getD fs n 0)) ≡ n
+  pub single : width (forestAt n fs ns (getD fs n 0)) ≤ 1
 
 -- ------------------------------------------------------------------ comparing and ordering by keys
 -- the first answer, or where it is Same the second one
@@ -89,30 +107,36 @@ orderedBy key bare = bare
 orderedBy key (tree i k r) = placeBy key i (orderedBy key k) (orderedBy key r)
 
 -- ------------------------------------------------------------------ what the functions owe
--- the tree at c goes before the tree at q or is equal to it
-unfoldable pub goesFirst : List ℕ → List ℕ → List ℕ → ℕ → ℕ → Bool
-goesFirst fs ns key c q = upTo (cmpT key c (forestAt fs ns (getD fs c 0)) q (forestAt fs ns (getD fs q 0)))
+-- the brothers from x on against those from y on
+unfoldable pub comparedAt : ℕ → List ℕ → List ℕ → List ℕ → ℕ → ℕ → Order
+comparedAt n fs ns key x y = cmpF key (forestAt n fs ns x) (forestAt n fs ns y)
 
--- the last tree of a list that goes before the tree at c; p where there is none
+-- the tree at c goes before the tree at q or is equal to it
+unfoldable pub goesFirst : ℕ → List ℕ → List ℕ → List ℕ → ℕ → ℕ → Bool
+goesFirst n fs ns key c q = upTo (cmpT key c (forestAt n fs ns (getD fs c 0)) q (forestAt n fs ns (getD fs q 0)))
+
+-- the last tree of a list that goes before the tree at c with k below it; p where there is none
 unfoldable pub spotOf : List ℕ → ℕ → Forest ℕ → ℕ → Forest ℕ → ℕ
 spotOf key c k p bare = p
 spotOf key c k p (tree j l r) = cond (upTo (cmpT key c k j l)) p (spotOf key c k j r)
 
+-- the same of the list at q; n where there is none
+unfoldable pub spotAt : ℕ → List ℕ → List ℕ → List ℕ → ℕ → ℕ → ℕ
+spotAt n fs ns key c q = spotOf key c (forestAt n fs ns (getD fs c 0)) n (forestAt n fs ns q)
+
 -- the tree at c may be put into the list at q
-pub record Ready (fs ns key : List ℕ) (c q : ℕ) : Type 0 where
-  pub wide : Wide fs ns key
-  pub inside : c < length ns
-  pub short : length ns < 65536
+pub record Ready (n : ℕ) (fs ns key : List ℕ) (c q : ℕ) : Type 0 where
+  pub few : n ≤ mostNodes
+  pub wide : Wide n fs ns key
+  pub inside : c < n
   pub low : q < 65536
-  pub kids : Finite fs ns (getD fs c 0)
-  pub list : Finite fs ns q
-  pub apart : Apart (tree c (forestAt fs ns (getD fs c 0)) (forestAt fs ns q))
-  pub room : size (tree c (forestAt fs ns (getD fs c 0)) (forestAt fs ns q)) ≤ length ns
+  pub kids : Finite n fs ns (getD fs c 0)
+  pub list : Finite n fs ns q
+  pub apart : Apart (tree c (forestAt n fs ns (getD fs c 0)) (forestAt n fs ns q))
+  pub room : size (tree c (forestAt n fs ns (getD fs c 0)) (forestAt n fs ns q)) ≤ n
 
 -- it was put there, r is the first tree, and no other row was linked anew
-pub record Placed (fs ns key : List ℕ) (c q : ℕ) (ns′ : List ℕ) (r : ℕ) : Type 0 where
-  pub reads : forestAt fs ns′ r ≡ placeBy key c (forestAt fs ns (getD fs c 0)) (forestAt fs ns q)
-  pub finite : Finite fs ns′ r
+pub record PutAmong (n : ℕ) (fs ns key : List ℕ) (c q : ℕ) (ns′ : List ℕ) (r : ℕ) : Type 0 where
+  pub linked : Linked n fs ns′ r (placeBy key c (forestAt n fs ns (getD fs c 0)) (forestAt n fs ns q))
   pub low : r < 65536
-  pub nexts : length ns′ ≡ length ns
-  pub rest : (j : ℕ) → (j ≡ c → ⊥) → (In j (forestAt fs ns q) → ⊥) → getD ns′ j 0 ≡ getD ns j 0
+  pub rest : (j : ℕ) → (j ≡ c → ⊥) → (In j (forestAt n fs ns q) → ⊥) → getD ns′ j 0 ≡ getD ns j 0

@@ -1,14 +1,14 @@
 // One key a row stands for the first three numbers of its record: two brothers are compared without writing their records out.
 ghost use mathlib.Core.Path.{_≡_};
-ghost use Prim.Native.Nat.{_+_, _<_};
+ghost use Prim.Native.Nat.{_<_};
 ghost use lib.ListN.{length, getD};
-ghost use Rattle.order.specs.Keys.{written, keyOf};
+ghost use Rattle.order.specs.Keys.{threeBytes, keyOf};
 
 // The bytes of x, filled up to three, as one number: it compares as the bytes do, where x itself would not (128 is written 80 01, 255 is FF 01, and
 // 256 is 80 02).
 fn bytes_of(x: u64) -> u64
     requires { ⌜ x < 2097152 ⌝ }
-    ensures { λ r. ⌜ (r ≡ written x) × (r < 16777216) ⌝ }
+    ensures { λ r. ⌜ (r ≡ threeBytes x) × (r < 16777216) ⌝ }
 {
     if x < 128 {
         return 65536 * x;
@@ -34,14 +34,21 @@ fn wide8(x: u8) -> u64
     x as u64
 }
 
+// A number of children among numbers of 64 bits.
+fn wide16(x: u16) -> u64
+    ensures { λ r. ⌜ (r ≡ x) × (r < 65536) ⌝ }
+{
+    x as u64
+}
+
 // The key of a row with label code l, mark m and c children: each as its bytes, and a mark is one byte.
-pub fn key_of(l: u32, m: u8, c: usize) -> u64
-    requires { ⌜ (l < 2097152) × (c < 2097152) ⌝ }
+pub fn key_of(l: u32, m: u8, c: u16) -> u64
+    requires { ⌜ l < 2097152 ⌝ }
     ensures { λ r. ⌜ r ≡ keyOf l m c ⌝ }
 {
     let a = bytes_of(wide(l));
     let b = wide8(m);
-    (a * 256 + b) * 16777216 + bytes_of(c as u64)
+    (a * 256 + b) * 16777216 + bytes_of(wide16(c))
 }
 
 // The key of row i.

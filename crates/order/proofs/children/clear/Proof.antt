@@ -11,10 +11,10 @@ use Rattle.order.proofs.children.clear.Reads as reads
 use Rattle.order.proofs.children.clear.Lts as lts
 
 abbrev Inv-loop : tie.InvT-loop
-Inv-loop n first₀ count₀ i₀ first count i = (i ≤ n + 1) × (length first ≡ length first₀) × (length count ≡ length count₀) × Cleared i first count
+Inv-loop n first₀ next₀ i₀ first next i = (i ≤ n + 1) × (length first ≡ length first₀) × (length next ≡ length next₀) × Cleared i first next
 
 abbrev μ-loop : tie.MeasureT-loop
-μ-loop n first₀ count₀ i₀ first count i = n + 1 - i
+μ-loop n first₀ next₀ i₀ first next i = n + 1 - i
 
 loop-holds : tie.Need-loop-holds Inv-loop μ-loop
 loop-holds c = (omega arith, refl, refl, λ p l. absurd (omega arith))
@@ -25,8 +25,8 @@ loop-again c =
     let s = c .before .before in (
       omega arith,
       length-set (v .first) _ _ ∙ v .inv .1,
-      length-set (v .count) _ _ ∙ v .inv .2,
-      cleared-more (v .i) (v .first) (v .count) (v .inv .3) (omega (arith, v .inv .1, s .pre .0)) (omega (arith, v .inv .2, s .pre .1)),
+      length-set (v .next) _ _ ∙ v .inv .2,
+      cleared-more (v .i) (v .first) (v .next) (v .inv .3) (omega (arith, v .inv .1, s .pre .0)) (omega (arith, v .inv .2, s .pre .1)),
     )
 
 returns : tie.Need-returns Inv-loop μ-loop

@@ -1,113 +1,127 @@
+use borrow.Author.Needs.{needs}
 use native.Mathlib.Omega.{arith}
-use Rattle.order.specs.Links.{forestAt}
-use Rattle.order.proofs.LaidOut.{Laying, toGo, laying-none, low, fits, down-less, laying-down, laid-all, climbs}
+use Rattle.order.proofs.LaidOut.{Laying, toGo, whole, laying-none, fits, down-less, laying-down, climbs, laid-rows}
 use Rattle.order.proofs.laying.lay.Statement.{statement}
 use Rattle.order.proofs.laying.lay.Tie as tie
 use Rattle.order.proofs.laying.lay.Reads as reads
 use Rattle.order.proofs.laying.lay.Lts as lts
 use Rattle.rows.proofs.link.Reads as link-reads
-use Rattle.rows.proofs.set_link.Reads as set-link-reads
+use Rattle.rows.proofs.wide.Reads as wide-reads
 
 abbrev Inv-loop : tie.InvT-loop
-Inv-loop first next c row₀ up₀ span₀ n at₀ u₀ x₀ row up span at u x = Laying first next c row₀ up₀ span₀ row up span at u x
+Inv-loop code mark first next n out-code₀ out-mark₀ kids₀ span₀ up₀ at₀ u₀ x₀ k₀ out-code out-mark kids span up at u x k =
+    Laying code mark n first next (whole n first next) (record { code = out-code₀; mark = out-mark₀; kids = kids₀; span = span₀; up = up₀ })
+    (record { code = out-code; mark = out-mark; kids = kids; span = span; up = up }) at u x k
 
 abbrev μ-loop : tie.MeasureT-loop
-μ-loop first next c row₀ up₀ span₀ n at₀ u₀ x₀ row up span at u x = toGo (forestAt first next c) at u
+μ-loop code mark first next n out-code₀ out-mark₀ kids₀ span₀ up₀ at₀ u₀ x₀ k₀ out-code out-mark kids span up at u x k = toGo n at u
 
 loop-holds : tie.Need-loop-holds Inv-loop μ-loop
-loop-holds c = laying-none _ _ _ _ _ _ (c .before .before .before .before .before .pre)
+loop-holds c = laying-none (c .before .before .before .before .before .before .before .before .before .before .pre) (c .link .ensures .0)
 
-set-link-requires : tie.Need-set-link-requires Inv-loop μ-loop
-set-link-requires c κs =
-    let t = c .before in
-    let v = t .before .loop .inv in
-    let p = t .before .before .before .before .before .before .before .pre in
-    (fits _ _ _ _ _ _ p _ _ _ _ _ _ v (t .if1 .taken) .0, omega (arith, p .short))
+slice-write-out-code : tie.Need-slice-write-out-code Inv-loop μ-loop
+slice-write-out-code c =
+    let t = c .before in let v = t .before in let p = v .before .before .before .before .before .before .before .before .before .before .before .pre in
+    fits p (v .loop .inv) (t .if1 .taken) .0
 
-set-link-requires-2 : tie.Need-set-link-requires-2 Inv-loop μ-loop
-set-link-requires-2 c κs =
-    let t = c .before .before .before .before .before in
-    let v = t .before .loop .inv in
-    let p = t .before .before .before .before .before .before .before .pre in
-    (fits _ _ _ _ _ _ p _ _ _ _ _ _ v (t .if1 .taken) .1, low _ _ _ _ _ _ p _ _ _ _ _ _ v)
+slice-write-out-mark : tie.Need-slice-write-out-mark Inv-loop μ-loop
+slice-write-out-mark c =
+    let t = c .before .before in let v = t .before in let p = v .before .before .before .before .before .before .before .before .before .before .before .pre in
+    fits p (v .loop .inv) (t .if1 .taken) .1
 
-link-requires : tie.Need-link-requires Inv-loop μ-loop
-link-requires c κs = omega (arith, c .before .before .before .before .before .before .before .before .before .before .before .before .before .before .before .pre .firsts)
+slice-write-kids : tie.Need-slice-write-kids Inv-loop μ-loop
+slice-write-kids c =
+    let t = c .before .before in let v = t .before in let p = v .before .before .before .before .before .before .before .before .before .before .before .pre in
+    fits p (v .loop .inv) (t .if1 .taken) .2
 
-add-at : tie.Need-add-at Inv-loop μ-loop
-add-at c =
-    let t = c .before .before .before .before .before .before .before .before .before in
-    let v = t .before .loop .inv in
-    let p = t .before .before .before .before .before .before .before .pre in
-    omega (arith, fits _ _ _ _ _ _ p _ _ _ _ _ _ v (t .if1 .taken) .2)
+slice-write-span : tie.Need-slice-write-span Inv-loop μ-loop
+slice-write-span c =
+    let t = c .before .before in let v = t .before in let p = v .before .before .before .before .before .before .before .before .before .before .before .pre in
+    fits p (v .loop .inv) (t .if1 .taken) .3
+
+slice-write-up : tie.Need-slice-write-up Inv-loop μ-loop
+slice-write-up c =
+    let t = c .before .before in let v = t .before in let p = v .before .before .before .before .before .before .before .before .before .before .before .pre in
+    fits p (v .loop .inv) (t .if1 .taken) .4
 
 loop-less : tie.Need-loop-less Inv-loop μ-loop
 loop-less c =
-    let t = c .before .before .before .before .before .before .before .before .before in
-    let v = t .before .loop .inv in
-    let p = t .before .before .before .before .before .before .before .pre in
-    down-less _ _ _ _ _ _ p _ _ _ _ _ _ v (t .if1 .taken)
+    let t = c .before .before .before in let v = t .before in let p = v .before .before .before .before .before .before .before .before .before .before .before .pre in
+    down-less p (v .loop .inv) (t .if1 .taken)
 
 loop-again : tie.Need-loop-again Inv-loop μ-loop
 loop-again c =
-    let t = c .before .before .before .before .before .before .before .before .before in
-    let v = t .before .loop .inv in
-    let p = t .before .before .before .before .before .before .before .pre in
-    laying-down _ _ _ _ _ _ p _ _ _ _ _ _ v (t .if1 .taken) _ _ (c .before .before .before .before .before .before .before .set-link .ensures) (c .before .before .before .set-link2 .ensures) _ (c .link .ensures .0)
-
-same-length : tie.Need-same-length Inv-loop μ-loop
-same-length c = c .before .before .loop .inv .rows
-
-same-length-2 : tie.Need-same-length-2 Inv-loop μ-loop
-same-length-2 c = c .before .before .loop .inv .ups
-
-same-length-3 : tie.Need-same-length-3 Inv-loop μ-loop
-same-length-3 c = c .before .before .loop .inv .spans
+    let t = c .before .before .before in let v = t .before in let p = v .before .before .before .before .before .before .before .before .before .before .before .pre in
+    laying-down p (v .loop .inv) (t .if1 .taken) (c .link2 .ensures .0)
 
 returns : tie.Need-returns Inv-loop μ-loop
-returns c = laid-all _ _ _ _ _ _ (c .before .before .before .before .before .before .before .before .pre) _ _ _ _ _ _ (c .before .before .loop .inv) (c .before .if1 .left) (c .if2 .taken)
+returns c = let e = c .before in let v = e .before in laid-rows (v .before .before .before .before .before .before .before .before .before .before .before .pre) (v .loop .inv) (e .if1 .left) (c .if2 .taken)
 
-sub-set-link : tie.Need-sub-set-link Inv-loop μ-loop
-sub-set-link c =
-    let e = c .before in
-    let k = climbs _ _ _ _ _ _ (e .before .before .before .before .before .before .before .before .pre) _ _ _ _ _ _ (e .before .before .loop .inv) (e .before .if1 .left) (e .if2 .left) in
-    omega (arith, k .before)
-
-set-link-requires-3 : tie.Need-set-link-requires-3 Inv-loop μ-loop
-set-link-requires-3 c κs =
-    let e = c .before in
-    let k = climbs _ _ _ _ _ _ (e .before .before .before .before .before .before .before .before .pre) _ _ _ _ _ _ (e .before .before .loop .inv) (e .before .if1 .left) (e .if2 .left) in
-    k .span-fits
-
-link-requires-2 : tie.Need-link-requires-2 Inv-loop μ-loop
-link-requires-2 c κs =
-    let e = c .before .before .before .before .before in
-    let k = climbs _ _ _ _ _ _ (e .before .before .before .before .before .before .before .before .pre) _ _ _ _ _ _ (e .before .before .loop .inv) (e .before .if1 .left) (e .if2 .left) in
-    k .fits .0
+slice-read-wide : tie.Need-slice-read-wide Inv-loop μ-loop
+slice-read-wide c =
+    let e = c .before in let l = e .before in let v = l .before in let p = v .before .before .before .before .before .before .before .before .before .before .before .pre in
+    let k = climbs p (v .loop .inv) (l .if1 .left) (e .if2 .left) in
+    k .fits .1
 
 link-requires-3 : tie.Need-link-requires-3 Inv-loop μ-loop
 link-requires-3 c κs =
-    let e = c .before .before .before .before .before .before in
-    let k = climbs _ _ _ _ _ _ (e .before .before .before .before .before .before .before .before .pre) _ _ _ _ _ _ (e .before .before .loop .inv) (e .before .if1 .left) (e .if2 .left) in
-    rw (c .link2 .ensures .0) (k .inside)
+    let e = c .before .before in let l = e .before in let v = l .before in let p = v .before .before .before .before .before .before .before .before .before .before .before .pre in
+    let k = climbs p (v .loop .inv) (l .if1 .left) (e .if2 .left) in
+    rw (c .wide .ensures .0) (omega (arith, k .inside, p .2 .nexts))
 
-link-requires-4 : tie.Need-link-requires-4 Inv-loop μ-loop
-link-requires-4 c κs =
-    let e = c .before .before .before .before .before .before .before .before in
-    let k = climbs _ _ _ _ _ _ (e .before .before .before .before .before .before .before .before .pre) _ _ _ _ _ _ (e .before .before .loop .inv) (e .before .if1 .left) (e .if2 .left) in
+sub-span : tie.Need-sub-span Inv-loop μ-loop
+sub-span c =
+    let e = c .before .before .before in let l = e .before in let v = l .before in let p = v .before .before .before .before .before .before .before .before .before .before .before .pre in
+    let k = climbs p (v .loop .inv) (l .if1 .left) (e .if2 .left) in
+    omega (arith, k .before)
+
+cast-span-2 : tie.Need-cast-span-2 Inv-loop μ-loop
+cast-span-2 c =
+    let e = c .before .before .before in let l = e .before in let v = l .before in let p = v .before .before .before .before .before .before .before .before .before .before .before .pre in
+    let k = climbs p (v .loop .inv) (l .if1 .left) (e .if2 .left) in
+    omega (arith, k .short .0)
+
+slice-write-span-2 : tie.Need-slice-write-span-2 Inv-loop μ-loop
+slice-write-span-2 c =
+    let e = c .before .before .before in let l = e .before in let v = l .before in let p = v .before .before .before .before .before .before .before .before .before .before .before .pre in
+    let k = climbs p (v .loop .inv) (l .if1 .left) (e .if2 .left) in
     k .fits .1
+
+slice-read-before : tie.Need-slice-read-before Inv-loop μ-loop
+slice-read-before c =
+    let e = c .before .before .before .before in let l = e .before in let v = l .before in let p = v .before .before .before .before .before .before .before .before .before .before .before .pre in
+    let k = climbs p (v .loop .inv) (l .if1 .left) (e .if2 .left) in
+    k .fits .0
+
+slice-write-kids-2 : tie.Need-slice-write-kids-2 Inv-loop μ-loop
+slice-write-kids-2 c =
+    let e = c .before .before .before .before in let l = e .before in let v = l .before in let p = v .before .before .before .before .before .before .before .before .before .before .before .pre in
+    let k = climbs p (v .loop .inv) (l .if1 .left) (e .if2 .left) in
+    k .fits .0
+
+add-k : tie.Need-add-k Inv-loop μ-loop
+add-k c =
+    let e = c .before .before .before .before in let l = e .before in let v = l .before in let p = v .before .before .before .before .before .before .before .before .before .before .before .pre in
+    let k = climbs p (v .loop .inv) (l .if1 .left) (e .if2 .left) in
+    omega (arith, k .short .1)
+
+slice-read-wide-2 : tie.Need-slice-read-wide-2 Inv-loop μ-loop
+slice-read-wide-2 c =
+    let e = c .before .before .before .before .before in let l = e .before in let v = l .before in let p = v .before .before .before .before .before .before .before .before .before .before .before .pre in
+    let k = climbs p (v .loop .inv) (l .if1 .left) (e .if2 .left) in
+    k .fits .2
 
 loop-less-2 : tie.Need-loop-less-2 Inv-loop μ-loop
 loop-less-2 c =
-    let e = c .before .before .before .before .before .before .before .before .before in
-    let k = climbs _ _ _ _ _ _ (e .before .before .before .before .before .before .before .before .pre) _ _ _ _ _ _ (e .before .before .loop .inv) (e .before .if1 .left) (e .if2 .left) in
-    rw (c .link4 .ensures .0) (k .up-less)
+    let e = c .before .before .before .before .before .before in let l = e .before in let v = l .before in let p = v .before .before .before .before .before .before .before .before .before .before .before .pre in
+    let k = climbs p (v .loop .inv) (l .if1 .left) (e .if2 .left) in
+    rw (c .wide2 .ensures .0) (k .up-less)
 
 loop-again-2 : tie.Need-loop-again-2 Inv-loop μ-loop
 loop-again-2 c =
-    let e = c .before .before .before .before .before .before .before .before .before in
-    let k = climbs _ _ _ _ _ _ (e .before .before .before .before .before .before .before .before .pre) _ _ _ _ _ _ (e .before .before .loop .inv) (e .before .if1 .left) (e .if2 .left) in
-    rw (c .link4 .ensures .0, c .before .before .link3 .ensures .0, c .before .before .before .link2 .ensures .0) (k .laying-on _ (c .before .before .before .before .before .before .before .set-link3 .ensures))
+    let e = c .before .before .before .before .before .before in let l = e .before in let v = l .before in let p = v .before .before .before .before .before .before .before .before .before .before .before .pre in
+    let k = climbs p (v .loop .inv) (l .if1 .left) (e .if2 .left) in
+    rw (c .wide2 .ensures .0, c .before .before .before .link3 .ensures .0, c .before .before .before .before .wide .ensures .0) (k .laying-on)
 
 pub lay-spec : {M : Type 1} → statement M
 lay-spec =
@@ -115,21 +129,47 @@ lay-spec =
     (tie.spec
     Inv-loop
     μ-loop
+    (λ c κs. search needs)
     loop-holds
-    set-link-requires
-    set-link-requires-2
-    link-requires
-    add-at
+    (λ c. search needs)
+    (λ c. search needs)
+    (λ c. search needs)
+    slice-write-out-code
+    (λ c. search needs)
+    slice-write-out-mark
+    (λ c. search needs)
+    slice-write-kids
+    (λ c. search needs)
+    (λ c. search needs)
+    slice-write-span
+    (λ c. search needs)
+    (λ c. search needs)
+    slice-write-up
+    (λ c κs. search needs)
+    (λ c. search needs)
     loop-less
     loop-again
-    same-length
-    same-length-2
-    same-length-3
+    (λ c. search needs)
+    (λ c. search needs)
+    (λ c. search needs)
+    (λ c. search needs)
+    (λ c. search needs)
     returns
-    sub-set-link
-    set-link-requires-3
-    link-requires-2
+    (λ c. search needs)
+    slice-read-wide
+    (λ c κs. search needs)
     link-requires-3
-    link-requires-4
+    sub-span
+    cast-span-2
+    (λ c. search needs)
+    slice-write-span-2
+    (λ c. search needs)
+    slice-read-before
+    (λ c. search needs)
+    slice-write-kids-2
+    add-k
+    (λ c. search needs)
+    slice-read-wide-2
+    (λ c κs. search needs)
     loop-less-2
     loop-again-2)
