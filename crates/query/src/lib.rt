@@ -25,8 +25,7 @@ pub fn plain_rows(
     let mut parent = [0u16; POOL_ROWS];
     let mut label = [0u32; POOL_ROWS];
     let mut first = [0u16; MOST_NODES + 1];
-    let mut next = [0u16; MOST_NODES];
-    let mut count = [0u16; MOST_NODES + 1];
+    let mut next = [0u16; MOST_NODES + 1];
     let mut row = [0u16; MOST_NODES];
     let built = build(
         word,
@@ -45,8 +44,6 @@ pub fn plain_rows(
         built.d,
         &mut first,
         &mut next,
-        &mut count,
-        &mut row,
         code,
         mark,
         kids,
@@ -72,8 +69,7 @@ pub fn minimal_rows(
     let mut parent = [0u16; POOL_ROWS];
     let mut label = [0u32; POOL_ROWS];
     let mut first = [0u16; MOST_NODES + 1];
-    let mut next = [0u16; MOST_NODES];
-    let mut count = [0u16; MOST_NODES + 1];
+    let mut next = [0u16; MOST_NODES + 1];
     let mut row = [0u16; MOST_NODES];
     let built = build(
         word,
@@ -91,8 +87,6 @@ pub fn minimal_rows(
         built.d,
         &mut first,
         &mut next,
-        &mut count,
-        &mut row,
         code,
         mark,
         kids,

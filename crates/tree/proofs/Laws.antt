@@ -19,7 +19,7 @@ use Rattle.theory.proofs.Look.{never}
 use Rattle.rows.specs.Rows.{Rows, treeRows, mapT}
 use Rattle.rows.specs.Table.{table, query, queryOf, QueryTable, TreeTable, tableTree, tableShape, grown, childrenOf}
 use Rattle.rows.proofs.Table.{live-below}
-use Rattle.order.specs.Contract.{Room as LaySpace}
+use Rattle.order.specs.Contract.{LaySpace}
 use Rattle.order.proofs.QueryTable.{table-tree, table-of-tree}
 use Rattle.order.proofs.RowsTable.{rows-tree, rows-table, rows-first}
 use Rattle.fold.specs.Kept.{RowsFolded, RowsKept}
@@ -110,25 +110,20 @@ folded-least code mark span up n up′ code′ mark′ parent m F K =
 
 -- ------------------------------------------------------------------ what is lent
 -- it is enough to lay n rows out
-pub lay-space : {n : ℕ} {first next count row code mark kids span up : List ℕ} → n ≤ mostNodes → Lent first next count row
-    → Room code mark kids span up → LaySpace n first next count row code mark kids span up
+pub lay-space : {n : ℕ} {first next code mark kids span up : List ℕ} → n ≤ mostNodes → Lent first next
+    → Room code mark kids span up → LaySpace n first next code mark kids span up
 lay-space few l r = record {
   firsts = omega arith;
-  counts = omega arith;
   nexts = omega arith;
-  short = omega arith;
-  wide = omega arith;
-  rows = omega arith;
-  outCodes = omega arith;
-  outMarks = omega arith;
-  outKids = omega arith;
-  outSpans = omega arith;
-  outUps = omega arith;
+  codes = omega arith;
+  marks = omega arith;
+  counts = omega arith;
+  spans = omega arith;
+  ups = omega arith;
 }
 
-pub still-lent : {first next count row first′ next′ count′ row′ : List ℕ} → Lent first next count row → length first′ ≡ length first
-    → length next′ ≡ length next → length count′ ≡ length count → length row′ ≡ length row → Lent first′ next′ count′ row′
-still-lent l a b c d = record { firsts = a ∙ l .firsts; nexts = b ∙ l .nexts; counts = c ∙ l .counts; rows = d ∙ l .rows }
+pub still-lent : {first next first′ next′ : List ℕ} → Lent first next → length first′ ≡ length first → length next′ ≡ length next → Lent first′ next′
+still-lent l a b = record { firsts = a ∙ l .firsts; nexts = b ∙ l .nexts }
 
 pub still-room : {code mark kids span up code′ mark′ kids′ span′ up′ : List ℕ} → Room code mark kids span up → length code′ ≡ length code
     → length mark′ ≡ length mark → length kids′ ≡ length kids → length span′ ≡ length span → length up′ ≡ length up → Room code′ mark′ kids′ span′ up′

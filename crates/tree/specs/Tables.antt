@@ -12,12 +12,10 @@ use Rattle.rows.specs.Rows.{Rows, treeRows}
 use Rattle.rows.specs.Table.{TreeTable, ParentsFirst}
 
 -- ------------------------------------------------------------------ what is lent
--- tables to work in: the lists of children, with one more start for the top, how many children there are, and the rows of a table
-pub record Lent (first next count row : List ℕ) : Type 0 where
+-- tables to work in: the lists of children, with one more for the top's
+pub record Lent (first next : List ℕ) : Type 0 where
   pub firsts : length first ≡ suc mostNodes
-  pub nexts : length next ≡ mostNodes
-  pub counts : length count ≡ suc mostNodes
-  pub rows : length row ≡ mostNodes
+  pub nexts : length next ≡ suc mostNodes
 
 -- there is room for the rows of any tree query
 pub record Room (code mark kids span up : List ℕ) : Type 0 where

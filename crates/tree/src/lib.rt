@@ -3,7 +3,7 @@
 use limits::most::MOST_NODES;
 ghost use mathlib.Core.Path.{_≡_};
 ghost use mathlib.Core.List.{List};
-ghost use Prim.Native.Nat.{ℕ, _<_, _≤_};
+ghost use Prim.Native.Nat.{ℕ, suc, _<_, _≤_};
 ghost use lib.ListN.{length, getD};
 ghost use Rattle.meaning.specs.Limits.{mostNodes};
 ghost use Rattle.meaning.specs.Tree.{plainTree};
@@ -37,7 +37,7 @@ fn mark_ends(mark: &mut [u8], n: usize, s: usize, d: usize)
     mark[d] = mark[d] | 2;
 }
 
-// The tree with brothers in the order of the table. The tables from `first` to `row` are lent to work in, here and below.
+// The tree with brothers in the order of the table. The tables `first` and `next` are lent to work in, here and below.
 fn laid_rows(
     parent: &[u16],
     label: &[u32],
@@ -45,20 +45,18 @@ fn laid_rows(
     s: usize,
     d: usize,
     first: &mut Starts,
-    next: &mut Links,
-    count: &mut Starts,
-    row: &mut Links,
+    next: &mut Starts,
     code: &mut Codes,
     mark: &mut Marks,
     kids: &mut Links,
     span: &mut Links,
     up: &mut Links,
 )
-    requires { ⌜ QueryTable (now parent) (now label) n s d × Lent (now first) (now next) (now count) (now row)
+    requires { ⌜ QueryTable (now parent) (now label) n s d × Lent (now first) (now next)
         × Room (now code) (now mark) (now kids) (now span) (now up) ⌝ }
     ensures { λ _. ⌜ RowsAre (plainTree (queryOf (now (parent .entry)) (now (label .entry)) n s d))
         (now (code .exit)) (now (mark .exit)) (now (kids .exit)) (now (span .exit)) (now (up .exit)) n
-        × Lent (now (first .exit)) (now (next .exit)) (now (count .exit)) (now (row .exit)) ⌝ }
+        × Lent (now (first .exit)) (now (next .exit)) ⌝ }
 {
     let mut ends = [0u8; MOST_NODES];
     mark_ends(&mut ends, n, s, d);
@@ -69,8 +67,6 @@ fn laid_rows(
         n,
         first,
         next,
-        count,
-        row,
         code,
         mark,
         kids,
@@ -86,16 +82,14 @@ fn ordered_rows(
     ends: &Marks,
     n: usize,
     first: &mut Starts,
-    next: &mut Links,
-    count: &mut Starts,
-    row: &mut Links,
+    next: &mut Starts,
     code: &mut Codes,
     mark: &mut Marks,
     kids: &mut Links,
     span: &mut Links,
     up: &mut Links,
 )
-    requires { ⌜ Sortable (now parent) (now label) (now ends) n × Lent (now first) (now next) (now count) (now row)
+    requires { ⌜ Sortable (now parent) (now label) (now ends) n × Lent (now first) (now next)
         × Room (now code) (now mark) (now kids) (now span) (now up) ⌝ }
     ensures { λ _. ⌜ RowsAre (ordered (tableTree (now (parent .entry)) (now (label .entry)) (now (ends .entry)) n))
         (now (code .exit)) (now (mark .exit)) (now (kids .exit)) (now (span .exit)) (now (up .exit)) n ⌝ }
@@ -108,9 +102,7 @@ fn ordered_rows(
         n,
         first,
         next,
-        count,
         &mut key,
-        row,
         code,
         mark,
         kids,
@@ -126,17 +118,17 @@ fn folded_rows(
     span: &Links,
     up: &mut Links,
     n: usize,
-    child: &mut Links,
+    child: &mut Starts,
     parent: &mut Links,
     moved: &mut Links,
 ) -> usize
     requires { ⌜ ((kids : List ℕ) × Rows (now code) (now mark) kids (now span) (now up) n)
-        × (length (now child) ≡ mostNodes) × (length (now parent) ≡ mostNodes) × (length (now moved) ≡ mostNodes) ⌝ }
+        × (length (now child) ≡ suc mostNodes) × (length (now parent) ≡ mostNodes) × (length (now moved) ≡ mostNodes) ⌝ }
     ensures { λ r. ⌜ Sortable (now (parent .exit)) (now (code .exit)) (now (mark .exit)) r
         × (ordered (tableTree (now (parent .exit)) (now (code .exit)) (now (mark .exit)) r)
         ≡ ordered (minimal (treeRows (now (code .entry)) (now (mark .entry)) (now (span .entry)) n)))
         × (length (now (up .exit)) ≡ length (now (up .entry)))
-        × (length (now (child .exit)) ≡ mostNodes) × (length (now (moved .exit)) ≡ mostNodes) ⌝ }
+        × (length (now (child .exit)) ≡ suc mostNodes) × (length (now (moved .exit)) ≡ mostNodes) ⌝ }
 {
     fold::fold_rows(code, mark, span, up, n, child);
     fold::keep_rows(code, mark, span, up, n, parent, moved)
@@ -150,16 +142,14 @@ pub fn plain_rows(
     s: usize,
     d: usize,
     first: &mut Starts,
-    next: &mut Links,
-    count: &mut Starts,
-    row: &mut Links,
+    next: &mut Starts,
     code: &mut Codes,
     mark: &mut Marks,
     kids: &mut Links,
     span: &mut Links,
     up: &mut Links,
 )
-    requires { ⌜ QueryTable (now parent) (now label) n s d × Lent (now first) (now next) (now count) (now row)
+    requires { ⌜ QueryTable (now parent) (now label) n s d × Lent (now first) (now next)
         × Room (now code) (now mark) (now kids) (now span) (now up) ⌝ }
     ensures { λ _. ⌜ RowsAre (ordered (plainTree (queryOf (now (parent .entry)) (now (label .entry)) n s d)))
         (now (code .exit)) (now (mark .exit)) (now (kids .exit)) (now (span .exit)) (now (up .exit)) n ⌝ }
@@ -175,8 +165,6 @@ pub fn plain_rows(
         d,
         first,
         next,
-        count,
-        row,
         &mut labels,
         &mut marks,
         kids,
@@ -190,8 +178,6 @@ pub fn plain_rows(
         n,
         first,
         next,
-        count,
-        row,
         code,
         mark,
         kids,
@@ -208,16 +194,14 @@ pub fn minimal_rows(
     s: usize,
     d: usize,
     first: &mut Starts,
-    next: &mut Links,
-    count: &mut Starts,
-    row: &mut Links,
+    next: &mut Starts,
     code: &mut Codes,
     mark: &mut Marks,
     kids: &mut Links,
     span: &mut Links,
     up: &mut Links,
 ) -> usize
-    requires { ⌜ QueryTable (now parent) (now label) n s d × Lent (now first) (now next) (now count) (now row)
+    requires { ⌜ QueryTable (now parent) (now label) n s d × Lent (now first) (now next)
         × Room (now code) (now mark) (now kids) (now span) (now up) ⌝ }
     ensures { λ r. ⌜ RowsAre (minimalTree (queryOf (now (parent .entry)) (now (label .entry)) n s d))
         (now (code .exit)) (now (mark .exit)) (now (kids .exit)) (now (span .exit)) (now (up .exit)) r ⌝ }
@@ -233,15 +217,13 @@ pub fn minimal_rows(
         d,
         first,
         next,
-        count,
-        row,
         &mut labels,
         &mut marks,
         kids,
         span,
         up,
     );
-    let m = folded_rows(&mut labels, &mut marks, span, up, n, next, &mut above, row);
+    let m = folded_rows(&mut labels, &mut marks, span, up, n, next, &mut above, kids);
     ordered_rows(
         &above,
         &labels,
@@ -249,8 +231,6 @@ pub fn minimal_rows(
         m,
         first,
         next,
-        count,
-        row,
         code,
         mark,
         kids,

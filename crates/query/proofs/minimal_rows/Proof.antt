@@ -14,20 +14,20 @@ build-requires c κs = (c .before .before .before .before .before .before .pre .
 
 minimal-rows-requires : tie.Need-minimal-rows-requires
 minimal-rows-requires c κs =
-    let a = c .before .before .before .before .before .before .before .before .before .before .before .before .before .before .before .before in
+    let a = c .before .before .before .before .before .before .before .before .before .before .before .before .before .before in
     let p = a .before .before .before .before .before .before .before .pre in
     let b = a .build in
     let t = b .last .1 in
     let r = b .result in
     let k = b .kept .1 in (
       built-table _ (t .0) (t .1 .0) (r .rows) (r .s) (r .d) (b .ensures) (p .0) (omega (arith, k .0)) (omega (arith, k .1 .0)),
-      record { firsts = k .1 .1 .0; nexts = k .1 .1 .1 .0; counts = refl; rows = k .1 .1 .1 .1 .0 },
+      record { firsts = k .1 .1 .0; nexts = k .1 .1 .1 .0 },
       p .1,
     )
 
 returns : tie.Need-returns
 returns c =
-    let b = c .before .before .before .before .before .before .before .before .before .before .before .before .before .before .before .before .before .build in
+    let b = c .before .before .before .before .before .before .before .before .before .before .before .before .before .before .before .build in
     let t = b .last .1 in
     let r = b .result in
     built-rows _ (t .0) (t .1 .0) (r .rows) (r .s) (r .d) (b .ensures) minimalTree (c .minimal-rows .ensures)

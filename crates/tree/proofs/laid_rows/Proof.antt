@@ -15,24 +15,24 @@ mark-ends-requires c κs =
 
 tree-rows-requires : tie.Need-tree-rows-requires
 tree-rows-requires c κs =
-    let p = c .before .before .before .before .before .before .before .before .before .before .before .before .before .before .before .pre in
-    let m = c .before .before .before .before .before .before .before .before .before .before .before .mark-ends in
+    let p = c .before .before .before .before .before .before .before .before .before .before .before .before .before .pre in
+    let m = c .before .before .before .before .before .before .before .before .before .mark-ends in
     (marked-table _ _ _ _ _ (p .0) _ (omega (arith, m .kept .0, p .0 .few)) (m .ensures), lay-space (p .0 .few) (p .1) (p .2))
 
 returns : tie.Need-returns
 returns c =
-    let e = c .before .before .before .before .before .before .before .before .before .before .before .before in
+    let e = c .before .before .before .before .before .before .before .before .before .before in
     let p = e .before .before .before .before .pre in
     let m = e .mark-ends in
     let t = c .tree-rows in
     let k = t .kept .1 .1 .1 .1 in
-    let j = k .1 .1 .1 .1 in (
+    let j = k .1 .1 in (
       record {
         rows = t .ensures .0;
         tree = t .ensures .1 ∙ marked-tree _ _ _ _ _ (p .0) _ (omega (arith, m .kept .0, p .0 .few)) (m .ensures);
         room = still-room (p .2) (j .0) (j .1 .0) (j .1 .1 .0) (j .1 .1 .1 .0) (j .1 .1 .1 .1 .0);
       },
-      still-lent (p .1) (k .0) (k .1 .0) (k .1 .1 .0) (k .1 .1 .1 .0),
+      still-lent (p .1) (k .0) (k .1 .0),
     )
 
 pub laid-rows-spec : {M : Type 1} → statement M

@@ -11,28 +11,28 @@ use Rattle.tree.proofs.ordered_rows.Reads as ordered-rows-reads
 
 laid-rows-requires : tie.Need-laid-rows-requires
 laid-rows-requires c κs =
-    let p = c .before .before .before .before .before .before .before .before .before .before .before .pre in
+    let p = c .before .before .before .before .before .before .before .before .before .pre in
     (p .0, p .1, record { codes = refl; marks = refl; counts = p .2 .counts; spans = p .2 .spans; ups = p .2 .ups })
 
 folded-rows-requires : tie.Need-folded-rows-requires
 folded-rows-requires c κs =
-    let l = c .before .before .before .before .before .before .before .laid-rows .ensures in ((_, l .0 .rows), l .1 .nexts, refl, l .1 .rows)
+    let l = c .before .before .before .before .before .before .before .laid-rows .ensures in ((_, l .0 .rows), l .1 .nexts, refl, l .0 .room .counts)
 
 ordered-rows-requires : tie.Need-ordered-rows-requires
 ordered-rows-requires c κs =
-    let k = c .before .before .before .before .before .before .before .before .before .before .before .before in
+    let k = c .before .before .before .before .before .before .before .before .before .before in
     let a = k .before .before .before .before .before .before .before .before in
-    let r = a .before .before .before .before .before .before .before .before .before .before .before .before .pre .2 in
+    let r = a .before .before .before .before .before .before .before .before .before .before .pre .2 in
     let l = a .laid-rows .ensures in
     let f = k .folded-rows .ensures in (
       f .0,
-      record { firsts = l .1 .firsts; nexts = f .3; counts = l .1 .counts; rows = f .4 },
-      record { codes = r .codes; marks = r .marks; counts = l .0 .room .counts; spans = l .0 .room .spans; ups = f .2 ∙ l .0 .room .ups },
+      record { firsts = l .1 .firsts; nexts = f .3 },
+      record { codes = r .codes; marks = r .marks; counts = f .4; spans = l .0 .room .spans; ups = f .2 ∙ l .0 .room .ups },
     )
 
 returns : tie.Need-returns
 returns c =
-    let k = c .before .before .before .before .before .before .before .before .before .before .before .before .before in
+    let k = c .before .before .before .before .before .before .before .before .before .before .before in
     let l = k .before .before .before .before .before .before .before .before .laid-rows .ensures .0 in
     let f = k .folded-rows .ensures in
     let o = c .ordered-rows .ensures in

@@ -9,15 +9,15 @@ use Rattle.order.proofs.image_rows.Reads as image-rows-reads
 
 image-rows-requires : tie.Need-image-rows-requires
 image-rows-requires c κs =
-    let p = c .before .before .before .before .before .before .before .before .before .before .before .before .before .pre in
+    let p = c .before .before .before .before .before .before .before .before .before .before .before .pre in
     let t = p .0 .table in
-    (t, lay-space (t .few) (p .1) (p .2), omega (arith, p .1 .nexts), p .0 .first)
+    (t, p .0 .first, t .few, lay-space (t .few) (p .1) (p .2))
 
 returns : tie.Need-returns
 returns c =
-    let p = c .before .before .before .before .before .before .before .before .before .before .before .before .before .before .before .pre in
+    let p = c .before .before .before .before .before .before .before .before .before .before .before .before .before .pre in
     let i = c .before .image-rows in
-    let j = i .kept .1 .1 .1 .1 .1 .1 .1 .1 .1 in
+    let j = i .kept .1 .1 .1 .1 .1 .1 .1 in
     record {
       rows = i .ensures .0;
       tree = i .ensures .1;

@@ -11,13 +11,13 @@ use Rattle.tree.proofs.ordered_rows.Reads as ordered-rows-reads
 
 laid-rows-requires : tie.Need-laid-rows-requires
 laid-rows-requires c κs =
-    let p = c .before .before .before .before .before .before .before .before .before .before .before .pre in
+    let p = c .before .before .before .before .before .before .before .before .before .pre in
     (p .0, p .1, record { codes = refl; marks = refl; counts = p .2 .counts; spans = p .2 .spans; ups = refl })
 
 ordered-rows-requires : tie.Need-ordered-rows-requires
 ordered-rows-requires c κs =
-    let a = c .before .before .before .before .before .before .before .before .before .before .before .before in
-    let r = a .before .before .before .before .before .before .before .before .before .before .before .before .pre .2 in
+    let a = c .before .before .before .before .before .before .before .before .before .before in
+    let r = a .before .before .before .before .before .before .before .before .before .before .pre .2 in
     let l = a .laid-rows .ensures in (
       rows-sortable _ _ _ _ _ _ (l .0 .rows),
       l .1,
@@ -26,7 +26,7 @@ ordered-rows-requires c κs =
 
 returns : tie.Need-returns
 returns c =
-    let l = c .before .before .before .before .before .before .before .before .before .before .before .before .before .laid-rows .ensures .0 in
+    let l = c .before .before .before .before .before .before .before .before .before .before .before .laid-rows .ensures .0 in
     let o = c .ordered-rows .ensures in
     record { rows = o .rows; tree = o .tree ∙ ap ordered (rows-tree _ _ _ _ _ _ (l .rows) ∙ l .tree); room = o .room }
 
