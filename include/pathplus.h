@@ -62,11 +62,11 @@
  * long as no two of them are lent the same room or workspace at one time. No
  * call waits, prints, or sets errno.
  *
- * Stack. It is bounded by the limits below; 48 KB (49,152 bytes) are enough for
+ * Stack. It is bounded by the limits below; 56 KB (57,344 bytes) are enough for
  * any call. The deepest is the normal form of one branch of 255 steps (the word
- * 02, 254 times 02 04, 05): 48,112 bytes on x86-64, 44,064 on aarch64, measured
+ * 02, 254 times 02 04, 05): 54,752 bytes on x86-64, 50,720 on aarch64, measured
  * by `bench/run stack` over words made to be deep. The other calls stay below
- * 32 KB.
+ * 44 KB.
  */
 #ifndef PATHPLUS_H
 #define PATHPLUS_H
