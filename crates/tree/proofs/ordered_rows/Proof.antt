@@ -1,5 +1,4 @@
 use mathlib.Core.Path.{refl}
-use native.Mathlib.Omega.{arith}
 use Rattle.tree.proofs.Laws.{lay-space, still-room}
 use Rattle.tree.proofs.ordered_rows.Statement.{statement}
 use Rattle.tree.proofs.ordered_rows.Tie as tie
