@@ -1,4 +1,3 @@
-use borrow.Author.Needs.{needs}
 use mathlib.Core.Path.{_∙_}
 use Rattle.order.proofs.Gathering.{tree-read, listed-table}
 use Rattle.order.proofs.ImageRows.{tagged, slots, space-kept}
@@ -28,11 +27,11 @@ tree-rows-spec =
     (tie.spec
     gather-requires
     lay-requires
-    (λ c. search needs)
-    (λ c. search needs)
-    (λ c. search needs)
-    (λ c. search needs)
-    (λ c. search needs)
-    (λ c. search needs)
-    (λ c. search needs)
+    (λ c. c .before .before .before .before .before .before .before .before .before .before .before .before .before .before .before .before .before .before .before .before .before .before .gather .kept .1 .1 .0)
+    (λ c. c .before .before .before .before .before .before .before .before .before .before .before .before .before .before .before .before .before .before .before .before .before .before .gather .kept .1 .1 .1 .0)
+    (λ c. c .before .before .before .before .before .before .before .before .before .before .lay .kept .1 .1 .1 .1 .1 .0)
+    (λ c. c .before .before .before .before .before .before .before .before .before .before .lay .kept .1 .1 .1 .1 .1 .1 .0)
+    (λ c. c .before .before .before .before .before .before .before .before .before .before .lay .kept .1 .1 .1 .1 .1 .1 .1 .0)
+    (λ c. c .before .before .before .before .before .before .before .before .before .before .lay .kept .1 .1 .1 .1 .1 .1 .1 .1 .0)
+    (λ c. c .before .before .before .before .before .before .before .before .before .before .lay .kept .1 .1 .1 .1 .1 .1 .1 .1 .1 .0)
     returns)
