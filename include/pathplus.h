@@ -62,11 +62,10 @@
  * long as no two of them are lent the same room or workspace at one time. No
  * call waits, prints, or sets errno.
  *
- * Stack. It is bounded by the limits below; 56 KB (57,344 bytes) are enough for
- * any call. The deepest is the normal form of one branch of 255 steps (the word
- * 02, 254 times 02 04, 05): 54,752 bytes on x86-64, 50,720 on aarch64, measured
- * by `bench/run stack` over words made to be deep. The other calls stay below
- * 44 KB.
+ * Stack. It is bounded by the limits below. The deepest that was measured, by
+ * `bench/run stack` over words made to be deep, is the normal form of one branch
+ * of 255 steps (the word 02, 254 times 02 04, 05): 54,752 bytes on x86-64, 50,720
+ * on aarch64. The other calls took less than 44 KB. This is measured, not proved.
  */
 #ifndef PATHPLUS_H
 #define PATHPLUS_H
