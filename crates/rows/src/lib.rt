@@ -1,10 +1,23 @@
 // Rows in image order, as the code reads them: links and spans are numbers of sixteen bits, marks are read by bits.
 // One call for each read keeps the proofs of its callers short.
+use limits::most::MOST_NODES;
 ghost use mathlib.Core.Path.{_≡_};
 ghost use Prim.Native.Nat.{_<_};
 ghost use lib.ListN.{length, getD, set};
 ghost use Rattle.meaning.specs.Limits.{mostNodes};
 ghost use Rattle.rows.specs.Rows.{Borne, FirstRow, covers};
+
+// A number of sixteen bits for each node: links, spans, numbers of children.
+pub type Links = [u16; MOST_NODES];
+
+// The same, and one more for the top, which has no parent.
+pub type Starts = [u16; MOST_NODES + 1];
+
+// A label code for each node.
+pub type Codes = [u32; MOST_NODES];
+
+// A mark for each node.
+pub type Marks = [u8; MOST_NODES];
 
 // The parent of the top: no row.
 pub const NO_ROW: u16 = 65535;
