@@ -6,7 +6,7 @@ use mathlib.Core.Bool.{Bool, true, false, Bool·beq}
 use mathlib.Core.List.{List}
 use Prim.Native.Nat.{ℕ, zero, suc, _+_, _/_, _%_, _^_, _≤_, _<_}
 use native.Mathlib.Omega.{arith}
-use lib.ListN.{length, getD}
+use lib.ListN.{getD}
 use lib.Dec.{eqb}
 use lib.Bits.{bitAnd, and-mod}
 use borrow.Author.Tests.{eqb-true, eqb-false}
@@ -20,8 +20,8 @@ use Rattle.bits.specs.Bits.{bitOf, allTo}
 use Rattle.bits.proofs.Bits.{all-to}
 use Rattle.rows.specs.Rows.{labOf, below, Holds}
 use Rattle.rows.proofs.Rows.{Opens, holds-first}
-use Rattle.onto.specs.Left.{Brother}
-use Rattle.onto.specs.Onto.{Tells, so, not-so, MarksLe, FitsChild, ChildrenFold, OntoRow, Lands, Stands}
+use Rattle.onto.specs.Left.{Nodes, goneAt, Brother}
+use Rattle.onto.specs.Onto.{Tells, so, not-so, MarksLe, FitsLeft, ChildrenFold, OntoRow, Lands, Stands}
 use Rattle.onto.proofs.Brothers.{Over, over-start, over-child, over-all}
 use Rattle.onto.proofs.Left.{any-of-row, row-of-any, folds-of-rows, row-of-folds}
 
@@ -103,70 +103,56 @@ label-is (suc a) (suc b) n l = ap suc l
 pub label-tells : (x y : ℕ) → ¬ (x ≡ 0) → Tells (LabLe (labOf x) (labOf y)) (eqb x y)
 label-tells x y n = same-tells (λ e. rw e (label-same y)) (label-is x y n) (eqb-tells x y)
 
--- ------------------------------------------------------------------ rows in the lists
+-- ------------------------------------------------------------------ rows
 height-child : (span : List ℕ) (u e : ℕ) (F : Forest ℕ) → Holds span u e F → (a : ℕ) → Brother a F → height (below span a) < height F
 height-child span u e bare h a t = absurd t
 height-child span u e (tree i k r) h a (inl q) =
     let z : below span a ≡ k = ap (below span) (q ∙ sym (h .0)) ∙ (holds-first span u e i k r h .0) in rw z (omega arith)
 height-child span u e (tree i k r) h a (inr t) = let z = height-child span _ e r (h .3) a t in omega arith
 
-module _ {code mark span up : List ℕ} {u : ℕ} (S : Stands code mark span up u) where
-  pub stands-in : (u < length code) × (u < length mark) × (u < length span) × (u < length up)
-  stands-in =
-      let s = S .some in (omega (arith, S .codes), omega (arith, S .marks), omega (arith, S .spans), omega (arith, S .ups))
+module _ {t : Nodes} {u : ℕ} (S : Stands t u) where
+  pub stands-in : u < mostNodes
+  stands-in = omega (arith, S .some, S .few)
 
   -- what lies below row u is not more than a row number can be
-  pub stands-few : {s : ℕ} → s ≡ getD span u 0 → u + s ≤ mostNodes
+  pub stands-few : {s : ℕ} → s ≡ getD (t .span) u 0 → u + s ≤ mostNodes
   stands-few e = omega (arith, S .few)
 
-  -- a row below it stands in them as well
-  pub stands-opens : {a e : ℕ} → Opens span a e → e ≡ u + getD span u 0 → Stands code mark span up a
-  stands-opens o q =
-      let i = o .inside in
-      record {
-        some = o .some;
-        codes = omega (arith, S .codes);
-        marks = omega (arith, S .marks);
-        spans = omega (arith, S .spans);
-        ups = omega (arith, S .ups);
-        few = omega (arith, S .few);
-        held = o .held;
-      }
+  -- a row below it stands as well
+  pub stands-opens : {a e : ℕ} → Opens (t .span) a e → e ≡ u + getD (t .span) u 0 → Stands t a
+  stands-opens o q = record { some = o .some; few = omega (arith, o .inside, S .few); held = o .held }
 
-  module _ {a e : ℕ} {P : ℕ → Type 0} (O : Over span u P a e) (l : a < e) where
-    pub stands-child : Stands code mark span up a
+  module _ {a e : ℕ} {P : ℕ → Type 0} (O : Over (t .span) u P a e) (l : a < e) where
+    pub stands-child : Stands t a
     stands-child = stands-opens (over-child O l .1) (O .ends)
 
     -- "the height of u falling"
-    pub height-falls : height (below span a) < height (below span u)
-    height-falls = height-child span _ _ (below span u) (O .held) a (over-child O l .0)
+    pub height-falls : height (below (t .span) a) < height (below (t .span) u)
+    height-falls = height-child (t .span) _ _ (below (t .span) u) (O .held) a (over-child O l .0)
 
 -- ------------------------------------------------------------------ the loops of the test
--- row a does not fold onto y, if y is still there below v
-abbrev pub Misses : List ℕ → List ℕ → List ℕ → List ℕ → ℕ → ℕ → ℕ → Type 0
-Misses code mark span up a v y = getD up y 0 ≡ v → ¬ OntoRow code mark span up a y
+-- row a does not fold onto y, if y is still there
+abbrev pub Misses : Nodes → ℕ → Nodes → ℕ → Type 0
+Misses t a t′ y = goneAt (t′ .mark) y ≡ false → ¬ OntoRow t a t′ y
 
-module _ {code mark span up : List ℕ} {a v b e : ℕ} (S : Stands code mark span up a) (R : Stands code mark span up v)
-    (O : Over span v (Misses code mark span up a v) b e) where
-  pub lands-here : b < e → FitsChild code mark up v a b → ChildrenFold code mark span up a b → Lands code mark span up a v
-  lands-here l f g = any-of-row code mark span up v _ _ (below span v) (O .held) _ b (over-child O l .0) (f .0) (f .1, g)
+module _ {t t′ : Nodes} {a v b e : ℕ} (S : Stands t a) (R : Stands t′ v) (O : Over (t′ .span) v (Misses t a t′) b e) where
+  pub lands-here : b < e → FitsLeft (t .code) (t .mark) (t′ .code) (t′ .mark) a b → ChildrenFold t a t′ b → Lands t a t′ v
+  lands-here l f g = any-of-row t′ _ _ (below (t′ .span) v) (O .held) _ b (over-child O l .0) (f .0) (f .1, g)
 
-  pub lands-nowhere : e ≤ b → ¬ Lands code mark span up a v
-  lands-nowhere l x = let w = row-of-any code mark span up v _ _ (below span v) (O .held) _ x in over-all O l (w .0) (w .1) (w .2) (w .3)
+  pub lands-nowhere : e ≤ b → ¬ Lands t a t′ v
+  lands-nowhere l x = let w = row-of-any t′ _ _ (below (t′ .span) v) (O .held) _ x in over-all O l (w .0) (w .1) (w .2) (w .3)
 
--- row x, if it is still there below u, folds onto some child of v
-abbrev pub Landed : List ℕ → List ℕ → List ℕ → List ℕ → ℕ → ℕ → ℕ → Type 0
-Landed code mark span up u v x = getD up x 0 ≡ u → Lands code mark span up x v
+-- row x, if it is still there, folds onto some child of v
+abbrev pub Landed : Nodes → Nodes → ℕ → ℕ → Type 0
+Landed t t′ v x = goneAt (t .mark) x ≡ false → Lands t x t′ v
 
-module _ {code mark span up : List ℕ} {u v a e : ℕ} (S : Stands code mark span up u) (R : Stands code mark span up v)
-    (O : Over span u (Landed code mark span up u v) a e) where
-  pub all-landed : e ≤ a → ChildrenFold code mark span up u v
-  all-landed l = folds-of-rows code mark span up u _ _ (below span u) (O .held) _ (over-all O l)
+module _ {t t′ : Nodes} {u v a e : ℕ} (S : Stands t u) (R : Stands t′ v) (O : Over (t .span) u (Landed t t′ v) a e) where
+  pub all-landed : e ≤ a → ChildrenFold t u t′ v
+  all-landed l = folds-of-rows t _ _ (below (t .span) u) (O .held) _ (over-all O l)
 
-  pub none-landed : a < e → getD up a 0 ≡ u → ¬ Lands code mark span up a v → ¬ ChildrenFold code mark span up u v
-  none-landed l q n f = n (row-of-folds code mark span up u _ _ (below span u) (O .held) _ f a (over-child O l .0) q)
+  pub none-landed : a < e → goneAt (t .mark) a ≡ false → ¬ Lands t a t′ v → ¬ ChildrenFold t u t′ v
+  none-landed l q n f = n (row-of-folds t _ _ (below (t .span) u) (O .held) _ f a (over-child O l .0) q)
 
 -- a row with nothing below it
-pub lone-folds : {code mark span up : List ℕ} {u v : ℕ} → Stands code mark span up u → Stands code mark span up v → getD span u 0 ≡ 1
-    → ChildrenFold code mark span up u v
+pub lone-folds : {t t′ : Nodes} {u v : ℕ} → Stands t u → Stands t′ v → getD (t .span) u 0 ≡ 1 → ChildrenFold t u t′ v
 lone-folds S R q = all-landed S R (over-start refl (S .held)) (omega arith)

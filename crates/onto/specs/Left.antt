@@ -1,37 +1,54 @@
--- Which rows of a tree in image order are still there. A row goes, with all below it, by one store: the number of its parent becomes `goneRow`. Rows
--- below it are never reached again.
+-- Which rows of a tree in image order are still there. A row goes, with all below it, by one store: a bit of its mark says so. Rows below it are never
+-- reached again.
 use mathlib.Core.Path.{_≡_}
 use mathlib.Core.Logic.{_⊎_}
-use mathlib.Core.Bool.{cond}
+use mathlib.Core.Bool.{Bool, cond}
 use mathlib.Core.List.{List}
 use Prim.Native.Nat.{ℕ}
 use lib.ListN.{getD}
-use lib.Dec.{eqb}
 use Rattle.meaning.specs.Tree.{Forest, bare, tree, Tag}
-use Rattle.rows.specs.Rows.{tagAt, below, shape, mapT, noRow}
+use Rattle.bits.specs.Bits.{bitOf}
+use Rattle.rows.specs.Rows.{tagAt, below, shape, mapT}
 
--- the number that a row's parent number becomes when the row goes: no row has it, and it is not `noRow`
-abbrev pub goneRow : ℕ
-goneRow = 65534
+-- the rows of a tree as far as folding reads them: label codes, marks and spans
+pub record Nodes : Type 0 where
+  pub code : List ℕ
+  pub mark : List ℕ
+  pub span : List ℕ
+
+abbrev pub nodes : List ℕ → List ℕ → List ℕ → Nodes
+nodes code mark span = record { code = code; mark = mark; span = span }
+
+-- what row u bears
+abbrev pub tagOf : Nodes → ℕ → Tag
+tagOf t u = tagAt (t .code) (t .mark) u
+
+-- the bit of a mark that says that the row has gone: s is bit 0 and d is bit 1
+abbrev pub goneBit : ℕ
+goneBit = 7
+
+-- row u has gone
+abbrev pub goneAt : List ℕ → ℕ → Bool
+goneAt mark u = bitOf (getD mark u 0) goneBit
 
 -- row j is one of the brothers
 abbrev pub Brother : ℕ → Forest ℕ → Type 0
 Brother j bare = ⊥
 Brother j (tree i k r) = (j ≡ i) ⊎ Brother j r
 
--- those of the brothers below row p that are still there, each with what is left below it
-unfoldable pub kept : List ℕ → ℕ → Forest ℕ → Forest ℕ
-kept up p bare = bare
-kept up p (tree i k r) = cond (eqb (getD up i 0) p) (tree i (kept up i k) (kept up p r)) (kept up p r)
+-- those of the brothers that are still there, each with what is left below it
+unfoldable pub kept : List ℕ → Forest ℕ → Forest ℕ
+kept mark bare = bare
+kept mark (tree i k r) = cond (goneAt mark i) (kept mark r) (tree i (kept mark k) (kept mark r))
 
 -- the same as a forest of what the rows bear
-unfoldable pub left : List ℕ → List ℕ → List ℕ → ℕ → Forest ℕ → Forest Tag
-left code mark up p F = mapT (tagAt code mark) (kept up p F)
+unfoldable pub left : Nodes → Forest ℕ → Forest Tag
+left t F = mapT (tagOf t) (kept (t .mark) F)
 
 -- what is left below row u
-abbrev pub leftBelow : List ℕ → List ℕ → List ℕ → List ℕ → ℕ → Forest Tag
-leftBelow code mark span up u = left code mark up u (below span u)
+abbrev pub leftBelow : Nodes → ℕ → Forest Tag
+leftBelow t u = left t (below (t .span) u)
 
 -- the tree that is left of n rows
-abbrev pub keptTree : List ℕ → List ℕ → List ℕ → List ℕ → ℕ → Forest Tag
-keptTree code mark span up n = left code mark up noRow (shape span n)
+abbrev pub keptTree : Nodes → ℕ → Forest Tag
+keptTree t n = left t (shape (t .span) n)

@@ -22,13 +22,13 @@ pub type Marks = [u8; MOST_NODES];
 // The parent of the top: no row.
 pub const NO_ROW: u16 = 65535;
 
-// The parent of a row that folding has taken out.
-pub const GONE: u16 = 65534;
-
 // The bits of a mark: "mark (0 none, 1 s, 2 d, 3 both)".
 pub const S: usize = 0;
 
 pub const D: usize = 1;
+
+// While a tree is folded, the bit of a row that has gone, with all below it.
+pub const GONE: usize = 7;
 
 // A link as a row number.
 pub fn wide(p: u16) -> usize
@@ -43,6 +43,14 @@ pub fn link(t: &[u16], i: usize) -> usize
     ensures { λ r. ⌜ (r ≡ getD (now (t .entry)) i 0) × (r < 65536) ⌝ }
 {
     wide(t[i])
+}
+
+// What stands for node u in a table of one number a node.
+pub fn at(t: &Links, u: usize) -> usize
+    requires { ⌜ u < mostNodes ⌝ }
+    ensures { λ r. ⌜ (r ≡ getD (now (t .entry)) u 0) × (r < 65536) ⌝ }
+{
+    wide(t[u])
 }
 
 // Puts v at i.

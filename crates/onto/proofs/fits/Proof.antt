@@ -12,7 +12,7 @@ fits-spec =
     (tie.spec
     (λ c. search needs) (λ c. search needs) (λ c. search needs) (λ c. search needs) (λ c κs. search needs)
     (λ c. not-so (λ t. no-told (c .before .label-fits .ensures) (not-true _ (c .if1 .taken)) (t .0)))
-    (λ c κs. search needs)
+    (λ c. search needs) (λ c. search needs) (λ c κs. search needs)
     (λ c.
-    let l = yes-told (c .before .before .label-fits .ensures) (not-false _ (c .before .if1 .left)) in
+    let l = yes-told (c .before .before .before .before .label-fits .ensures) (not-false _ (c .before .before .before .if1 .left)) in
     same-tells (λ m. (l, m .0, m .1)) (λ t. (t .1, t .2)) (c .marks-fit .ensures)))
