@@ -56,24 +56,15 @@ only-trans span p f g h x y j = go (x j) (y j)
     go (inr w) (inl b) = inr (record { lower = w .lower; inside = w .inside; child = w .child; away = b ∙ w .away })
     go (inr w) (inr v) = inr (record { lower = w .lower; inside = w .inside; child = w .child; away = v .away })
 
-module _ {code mark span up : List ℕ} {p a : ℕ} (S : Stands code mark span up p) (C : Child span up p a) where
+module _ {span up : List ℕ} {p a : ℕ} (S : Stands span p) (u : p + getD span p 0 ≤ length up) (C : Child span up p a) where
   abbrev rest : List ℕ
   rest = set up a goneRow
-
-  abbrev L : Forest ℕ → Forest Tag
-  L = left code mark up p
-
-  abbrev L′ : Forest ℕ → Forest Tag
-  L′ = left code mark rest p
-
-  abbrev B : ℕ → Forest Tag
-  B = leftBelow code mark span up
 
   low : (suc p ≤ a) × (a < p + getD span p 0)
   low = brother-range span _ _ (below span p) (S .held) a (C .brother)
 
   at-a : getD rest a 0 ≡ goneRow
-  at-a = getD-set-same up a goneRow 0 (omega (arith, low, S .ups))
+  at-a = getD-set-same up a goneRow 0 (omega (arith, low))
 
   goes-only : Only span p up rest
   goes-only j = go (ℕ-discrete j a)
@@ -90,34 +81,44 @@ module _ {code mark span up : List ℕ} {p a : ℕ} (S : Stands code mark span u
       go (yes q) = let z : getD rest a 0 ≡ p = rw q at e in absurd (omega (arith, at-a, S .few, S .some))
       go (no n) = (n, sym (getD-set-other up a x goneRow 0 n) ∙ e)
 
-  same : (x : ℕ) → Brother x (below span p) → leftBelow code mark span rest x ≡ B x
-  same x s =
-      below-same code mark span goes-only (brother-opens span _ _ (below span p) (S .held) x s) (brother-range span _ _ (below span p) (S .held) x s .0) (S .few)
+  module _ (code mark : List ℕ) where
+    abbrev L : Forest ℕ → Forest Tag
+    L = left code mark up p
 
-  -- what is left of the children, without a; h are brothers onto one of which a folds
-  goes-pruned : (h : Forest Tag) → Any (Onto (tagAt code mark a) (B a)) h → Pruned h (B p) (leftBelow code mark span rest p)
-  goes-pruned h y =
-      left-ind code mark span up p (λ G M. Pruned h M (L′ G)) (suc p) (p + getD span p 0) (rw (left-bare code mark rest p) end)
-      (λ i r l o g m. (
-        λ d. here i r l o m d (ℕ-discrete i a),
-        λ d. rw (left-away code mark rest p i (below span i) r (λ z. d (was i z .1))) m,
-      )) (below span p) (S .held)
-    where
-      here : (i : ℕ) (r : Forest ℕ) → suc p ≤ i → Opens span i (p + getD span p 0) → Pruned h (L r) (L′ r) → getD up i 0 ≡ p → Dec (i ≡ a)
-          → Pruned h (tree (tagAt code mark i) (B i) (L r)) (L′ (tree i (below span i) r))
-      here i r l o m d (yes e) =
-          let y′ : Any (Onto (tagAt code mark i) (B i)) h = rw e y in
-          rw (left-away code mark rest p i (below span i) r (λ z. was i z .0 e)) (gone y′ m)
-      here i r l o m d (no n) =
-          rw (left-here code mark rest p i (below span i) r (getD-set-other up a i goneRow 0 n ∙ d), below-same code mark span goes-only o l (S .few))
-          (kept (pruned-refl (B i) (B i)) m)
+    abbrev L′ : Forest ℕ → Forest Tag
+    L′ = left code mark rest p
 
-  -- a folds onto another child b: with a or without it the children fold onto each other
-  goes-equal : (b : ℕ) → Child span up p b → ¬ (a ≡ b) → OntoRow code mark span up a b → Equal (B p) (leftBelow code mark span rest p)
-  goes-equal b D n f =
-      pruned-equal (goes-pruned (leftBelow code mark span rest p)
-      (any-of-row code mark span rest p _ _ (below span p) (S .held) (Onto (tagAt code mark a) (B a)) b (D .brother)
-      (getD-set-other up a b goneRow 0 (λ z. n (sym z)) ∙ D .there) (rw (same b (D .brother)) f)))
+    abbrev B : ℕ → Forest Tag
+    B = leftBelow code mark span up
+
+    same : (x : ℕ) → Brother x (below span p) → leftBelow code mark span rest x ≡ B x
+    same x s =
+        below-same code mark span goes-only (brother-opens span _ _ (below span p) (S .held) x s) (brother-range span _ _ (below span p) (S .held) x s .0) (S .few)
+
+    -- what is left of the children, without a; h are brothers onto one of which a folds
+    goes-pruned : (h : Forest Tag) → Any (Onto (tagAt code mark a) (B a)) h → Pruned h (B p) (leftBelow code mark span rest p)
+    goes-pruned h y =
+        left-ind code mark span up p (λ G M. Pruned h M (L′ G)) (suc p) (p + getD span p 0) (rw (left-bare code mark rest p) end)
+        (λ i r l o g m. (
+          λ d. here i r l o m d (ℕ-discrete i a),
+          λ d. rw (left-away code mark rest p i (below span i) r (λ z. d (was i z .1))) m,
+        )) (below span p) (S .held)
+      where
+        here : (i : ℕ) (r : Forest ℕ) → suc p ≤ i → Opens span i (p + getD span p 0) → Pruned h (L r) (L′ r) → getD up i 0 ≡ p → Dec (i ≡ a)
+            → Pruned h (tree (tagAt code mark i) (B i) (L r)) (L′ (tree i (below span i) r))
+        here i r l o m d (yes e) =
+            let y′ : Any (Onto (tagAt code mark i) (B i)) h = rw e y in
+            rw (left-away code mark rest p i (below span i) r (λ z. was i z .0 e)) (gone y′ m)
+        here i r l o m d (no n) =
+            rw (left-here code mark rest p i (below span i) r (getD-set-other up a i goneRow 0 n ∙ d), below-same code mark span goes-only o l (S .few))
+            (kept (pruned-refl (B i) (B i)) m)
+
+    -- a folds onto another child b: with a or without it the children fold onto each other
+    goes-equal : (b : ℕ) → Child span up p b → ¬ (a ≡ b) → OntoRow code mark span up a b → Equal (B p) (leftBelow code mark span rest p)
+    goes-equal b D n f =
+        pruned-equal (goes-pruned (leftBelow code mark span rest p)
+        (any-of-row code mark span rest p _ _ (below span p) (S .held) (Onto (tagAt code mark a) (B a)) b (D .brother)
+        (getD-set-other up a b goneRow 0 (λ z. n (sym z)) ∙ D .there) (rw (same b (D .brother)) f)))
 
 -- ------------------------------------------------------------------ the search
 -- some children of p have gone, each folding onto one that stayed
@@ -164,20 +165,17 @@ module _ (code mark span up : List ℕ) (p : ℕ) where
       )) F h
 
 -- the children that are left are listed
-module _ {code mark span up : List ℕ} {p : ℕ} {up′ : List ℕ} (S : Stands code mark span up p) (W : Searched code mark span up p up′)
-    {child : List ℕ} {k : ℕ} (L : Listed span up′ p child k) where
-  T : Stands code mark span up′ p
-  T = record { some = S .some; codes = S .codes; marks = S .marks; spans = S .spans; ups = omega (arith, S .ups, W .long); few = S .few; held = S .held }
-
-  pub searchable : {i : ℕ} → i ≤ k → Searchable code mark span up′ child i k
+module _ {code mark span up : List ℕ} {p : ℕ} {up′ : List ℕ} (S : Stands span p) (W : Searched code mark span up p up′) {child : List ℕ} {k : ℕ}
+    (L : Listed span up′ p child k) where
+  pub searchable : {i : ℕ} → i ≤ k → Searchable span child i k
   searchable l = record {
     begun = l;
-    room = L .room;
-    stand = λ j m. stands-opens T (brother-opens span _ _ (below span p) (S .held) _ (L .each j m .brother)) refl;
+    few = L .few;
+    stand = λ j m. stands-opens S (brother-opens span _ _ (below span p) (S .held) _ (L .each j m .brother)) refl;
   }
 
-  pub listed-inside : (i : ℕ) → i < k → getD child i 0 < length up′
-  listed-inside i l = omega (arith, brother-range span _ _ (below span p) (S .held) _ (L .each i l .brother), T .ups)
+  pub listed-inside : (i : ℕ) → i < k → getD child i 0 < mostNodes
+  listed-inside i l = omega (arith, brother-range span _ _ (below span p) (S .held) _ (L .each i l .brother), S .few)
 
   -- none of them folds onto another one
   pub searched-all : Clear code mark span up′ child k k → ChildrenFolded code mark span up p up′
@@ -190,6 +188,7 @@ module _ {code mark span up : List ℕ} {p : ℕ} {up′ : List ℕ} (S : Stands
             apart-of-rows code mark span up′ p _ _ (below span p) (S .held)
             (λ x y s t d f n o. apart x y n o (L .all x (record { brother = s; there = d })) (L .all y (record { brother = t; there = f })));
         only = W .only;
+        long = W .long;
       }
     where
       apart : (x y : ℕ) → ¬ (x ≡ y) → OntoRow code mark span up′ x y
@@ -197,29 +196,33 @@ module _ {code mark span up : List ℕ} {p : ℕ} {up′ : List ℕ} (S : Stands
       apart x y n o (i, a, b) (j, c, d) = A i a (j, c, λ e. n (sym b ∙ ap (λ h. getD child h 0) e ∙ d), rw (b, d) o)
 
   -- the i-th folds onto another one and is taken out; m others are left
-  module _ {i m : ℕ} (q : k ≡ m + 1) (l : i < k) {up″ child″ : List ℕ} (X : TakenOut up′ child i m up″ child″) where
+  module _ {i m : ℕ} (q : k ≡ m + 1) (l : i < k) (u : p + getD span p 0 ≤ length up) (r : mostNodes ≤ length child) {up″ child″ : List ℕ}
+      (X : TakenOut up′ child i m up″ child″) where
+    u′ : p + getD span p 0 ≤ length up′
+    u′ = omega (arith, W .long)
+
     pub goes : Foldable code mark span up′ child k i → Searched code mark span up p up″ × Listed span up″ p child″ m
     goes (j, a, n, o) = rw (X .ups, X .list) (
       record {
         long = length-set up′ _ goneRow ∙ W .long;
-        only = only-trans span p up up′ _ (W .only) (goes-only T (L .each i l));
+        only = only-trans span p up up′ _ (W .only) (goes-only S u′ (L .each i l));
         equal =
             equal-trans (leftBelow code mark span up p) (leftBelow code mark span up′ p) (leftBelow code mark span _ p) (W .equal)
-            (goes-equal T (L .each i l) _ (L .each j a) (λ e. n (L .once i j l a e)) o);
+            (goes-equal S u′ (L .each i l) code mark _ (L .each j a) (λ e. n (L .once i j l a e)) o);
       },
-      lists-less q i (omega arith) L
+      lists-less q i (omega arith) (omega (arith, L .few)) L
           (λ x c n. record { brother = c .brother; there = getD-set-other up′ _ x goneRow 0 n ∙ c .there })
-          (λ x c. let w = was T (L .each i l) x (c .there) in (record { brother = c .brother; there = w .1 }, w .0)),
+          (λ x c. let w = was S u′ (L .each i l) x (c .there) in (record { brother = c .brother; there = w .1 }, w .0)),
     )
 
     -- what folds onto another one now did so before
     folded : (j : ℕ) → j < i → Foldable code mark span (set up′ (getD child i 0) goneRow) (set child i (getD child m 0)) m j
         → Foldable code mark span up′ child k j
     folded j b (h, a, n, o) =
-        let w = stood child i m (omega arith) (omega (arith, L .room)) h a in
+        let w = stood child i m (omega arith) (omega (arith, L .few)) h a in
         let c : w .place < k = omega (arith, w .inside) in
         let e = getD-set-other child i j (getD child m 0) 0 (λ z. omega arith) in
-        let d = same T (L .each i l) in
+        let d = same S u′ (L .each i l) code mark in
         (w .place, c, other (w .whence), rw (e, w .same, d _ (L .each j (omega arith) .brother), d _ (L .each (w .place) c .brother)) at o)
       where
         other : {x : ℕ} → Whence i m h x → ¬ (j ≡ x)

@@ -6,8 +6,9 @@ use mathlib.Core.List.{List}
 use Prim.Native.Nat.{ℕ, suc, _+_, _≤_, _<_}
 use native.Mathlib.Omega.{arith}
 use native.Mathlib.Decide.{ℕ-discrete, decLt}
-use lib.ListN.{length, getD, set, length-set}
+use lib.ListN.{length, getD, set}
 use lib.Seq.{getD-set-same, getD-set-other}
+use Rattle.meaning.specs.Limits.{mostNodes}
 use Rattle.rows.specs.Rows.{below, Holds}
 use Rattle.brothers.specs.Brothers.{Child, Lists, Listed}
 use Rattle.onto.proofs.Brothers.{brother-range, Over, over-child, over-step, over-split}
@@ -15,13 +16,13 @@ use Rattle.onto.proofs.Brothers.{brother-range, Over, over-child, over-step, ov
 -- ------------------------------------------------------------------ lists
 -- the rows that are P are those that are Q
 pub lists-same : {P Q : ℕ → Type 0} {child : List ℕ} {k : ℕ} → Lists P child k → ((x : ℕ) → P x → Q x) → ((x : ℕ) → Q x → P x) → Lists Q child k
-lists-same L to from = record { room = L .room; each = λ i l. to _ (L .each i l); all = λ x q. L .all x (from x q); once = L .once }
+lists-same L to from = record { few = L .few; each = λ i l. to _ (L .each i l); all = λ x q. L .all x (from x q); once = L .once }
 
 -- what stands behind the list does not matter
 pub lists-store : {P : ℕ → Type 0} {child : List ℕ} {k : ℕ} (c : ℕ) → Lists P child k → Lists P (set child k c) k
 lists-store {P} {child} {k} c L =
     record {
-      room = rw length-set (L .room);
+      few = L .few;
       each = λ i l. rw (same i l) (L .each i l);
       all = λ x p. let w = L .all x p in (w .0, w .1, same (w .0) (w .1) ∙ w .2);
       once = λ i j l m e. L .once i j l m (sym (same i l) ∙ e ∙ same j m);
@@ -31,11 +32,11 @@ lists-store {P} {child} {k} c L =
     same i l = getD-set-other child k i c 0 (λ e. omega arith)
 
 -- the row that stands behind the list, c, is listed too
-lists-more : {P Q : ℕ → Type 0} {child : List ℕ} {k c : ℕ} → Lists P child k → k < length child → getD child k 0 ≡ c → ¬ P c → Q c
+lists-more : {P Q : ℕ → Type 0} {child : List ℕ} {k c : ℕ} → Lists P child k → k < mostNodes → getD child k 0 ≡ c → ¬ P c → Q c
     → ((x : ℕ) → P x → Q x) → ((x : ℕ) → Q x → P x ⊎ (x ≡ c)) → Lists Q child (k + 1)
 lists-more {P} {Q} {child} {k} {c} L l s n here to from =
     record {
-      room = omega arith;
+      few = omega arith;
       each = λ i m. each i (decLt i k) m;
       all = λ x q. all x (from x q);
       once = λ i j m o. once i j (decLt i k) (decLt j k) m o;
@@ -84,19 +85,19 @@ stood child i m l n j o = go (ℕ-discrete j i)
     go (no d) = record { place = j; inside = omega arith; other = d; whence = inl (omega arith, d); same = getD-set-other child i j (getD child m 0) 0 d }
 
 -- the i-th of k rows is taken out, and m are left
-pub lists-less : {P Q : ℕ → Type 0} {child : List ℕ} {k m : ℕ} → k ≡ m + 1 → (i : ℕ) → i ≤ m → Lists P child k
+pub lists-less : {P Q : ℕ → Type 0} {child : List ℕ} {k m : ℕ} → k ≡ m + 1 → (i : ℕ) → i ≤ m → m < length child → Lists P child k
     → ((x : ℕ) → P x → ¬ (x ≡ getD child i 0) → Q x) → ((x : ℕ) → Q x → P x × (¬ (x ≡ getD child i 0)))
     → Lists Q (set child i (getD child m 0)) m
-lists-less {P} {Q} {child} {k} {m} q i l L to from =
+lists-less {P} {Q} {child} {k} {m} q i l s L to from =
     record {
-      room = rw length-set (omega (arith, L .room));
+      few = omega (arith, L .few);
       each = λ j o. each j (at j o);
       all = λ x z. all x (from x z);
       once = λ j h o r e. once j h (at j o) (at h r) o r e;
     }
   where
     at : (j : ℕ) → j < m → Stood child i m j
-    at = stood child i m l (omega (arith, L .room))
+    at = stood child i m l s
 
     each : (j : ℕ) → Stood child i m j → Q (getD (set child i (getD child m 0)) j 0)
     each j w =
@@ -107,7 +108,7 @@ lists-less {P} {Q} {child} {k} {m} q i l L to from =
     all x (z, n) = go (L .all x z)
       where
         at-m : (y : ℕ) → y < k → getD child y 0 ≡ x → ¬ (y ≡ i) → Dec (y ≡ m) → (j : ℕ) × (j < m) × (getD (set child i (getD child m 0)) j 0 ≡ x)
-        at-m y a b d (yes e) = (i, omega arith, getD-set-same child i (getD child m 0) 0 (omega (arith, L .room)) ∙ (rw e at b))
+        at-m y a b d (yes e) = (i, omega arith, getD-set-same child i (getD child m 0) 0 (omega arith) ∙ (rw e at b))
         at-m y a b d (no e) = (y, omega arith, getD-set-other child i y (getD child m 0) 0 d ∙ b)
 
         go : (y : ℕ) × (y < k) × (getD child y 0 ≡ x) → (j : ℕ) × (j < m) × (getD (set child i (getD child m 0)) j 0 ≡ x)
@@ -133,7 +134,7 @@ pub list-start : (span up : List ℕ) (p : ℕ) (child : List ℕ) → Holds spa
     → Lists (Before span up p (p + 1)) child 0
 list-start span up p child h =
     record {
-      room = omega arith;
+      few = omega arith;
       each = λ i l. absurd (omega arith);
       all = λ x b. let z = brother-range span _ _ (below span p) h x (b .0 .brother) in absurd (omega (arith, b .1));
       once = λ i j l. absurd (omega arith);
@@ -145,7 +146,7 @@ module _ {span up child : List ℕ} {p c e k : ℕ} {P : ℕ → Type 0} (O : Ov
 
   module _ (l : c < e) {s : ℕ} (q : s ≡ getD span c 0) where
     -- row c, which stands behind the list, is there
-    pub list-child : getD up c 0 ≡ p → k < length child → getD child k 0 ≡ c → Lists (Before span up p (c + s)) child (k + 1)
+    pub list-child : getD up c 0 ≡ p → k < mostNodes → getD child k 0 ≡ c → Lists (Before span up p (c + s)) child (k + 1)
     list-child d r h =
         lists-more L r h (λ b. omega (arith, b .1)) (record { brother = over-child O l .0; there = d }, omega (arith, over-step O l q))
         (λ x b. (b .0, omega (arith, b .1))) (λ x b. ⊎-elim (λ m. inl (b .0, m)) inr (over-split O l q x (b .0 .brother) (b .1)))

@@ -3,12 +3,12 @@
 use mathlib.Core.Path.{_≡_}
 use mathlib.Core.Logic.{_⊎_}
 use mathlib.Core.List.{List}
-use Prim.Native.Nat.{ℕ, suc, _+_, _≤_, _<_}
+use Prim.Native.Nat.{ℕ, _+_, _≤_, _<_}
 use lib.ListN.{length, getD, set}
 use Rattle.meaning.specs.Limits.{mostNodes}
 use Rattle.meaning.specs.Tree.{Forest, bare, tree, Tag, Any}
 use Rattle.meaning.specs.Folding.{Folds, Onto}
-use Rattle.rows.specs.Rows.{below, Holds}
+use Rattle.rows.specs.Rows.{below}
 use Rattle.onto.specs.Left.{goneRow, Brother, leftBelow}
 use Rattle.onto.specs.Onto.{OntoRow, Stands}
 
@@ -18,18 +18,9 @@ pub record Child (span up : List ℕ) (p x : ℕ) : Type 0 where
   pub brother : Brother x (below span p)
   pub there : getD up x 0 ≡ p
 
--- row p and all below it stand in the two lists, laid out in image order, and there is room to list them
-pub record Listable (span up : List ℕ) (p : ℕ) (child : List ℕ) : Type 0 where
-  pub spans : p + getD span p 0 ≤ length span
-  pub some : 1 ≤ getD span p 0
-  pub ups : p + getD span p 0 ≤ length up
-  pub few : p + getD span p 0 ≤ mostNodes
-  pub held : Holds span (suc p) (p + getD span p 0) (below span p)
-  pub room : mostNodes ≤ length child
-
 -- the first k of the list are the rows that are P, each once
 pub record Lists (P : ℕ → Type 0) (child : List ℕ) (k : ℕ) : Type 0 where
-  pub room : k ≤ length child
+  pub few : k ≤ mostNodes
   pub each : (i : ℕ) → i < k → P (getD child i 0)
   pub all : (x : ℕ) → P x → (i : ℕ) × (i < k) × (getD child i 0 ≡ x)
   pub once : (i j : ℕ) → i < k → j < k → getD child i 0 ≡ getD child j 0 → i ≡ j
@@ -42,11 +33,11 @@ Listed span up p child k = Lists (Child span up p) child k
 abbrev pub Foldable : List ℕ → List ℕ → List ℕ → List ℕ → List ℕ → ℕ → ℕ → Type 0
 Foldable code mark span up child k i = (j : ℕ) × (j < k) × (¬ (i ≡ j)) × OntoRow code mark span up (getD child i 0) (getD child j 0)
 
--- k listed rows stand in the four lists, to be searched from place `from` on
-pub record Searchable (code mark span up child : List ℕ) (from k : ℕ) : Type 0 where
+-- k listed rows stand, to be searched from place `from` on
+pub record Searchable (span child : List ℕ) (from k : ℕ) : Type 0 where
   pub begun : from ≤ k
-  pub room : k ≤ length child
-  pub stand : (i : ℕ) → i < k → Stands code mark span up (getD child i 0)
+  pub few : k ≤ mostNodes
+  pub stand : (i : ℕ) → i < k → Stands span (getD child i 0)
 
 -- r is the first place from `from` on at which a foldable row is listed, or k where there is none
 pub record FirstFoldable (code mark span up child : List ℕ) (from k r : ℕ) : Type 0 where
@@ -84,3 +75,4 @@ pub record ChildrenFolded (code mark span up : List ℕ) (p : ℕ) (up′ : List
   pub from : Folds (leftBelow code mark span up′ p) (leftBelow code mark span up p)
   pub apart : NoneFold (leftBelow code mark span up′ p)
   pub only : Only span p up up′
+  pub long : length up′ ≡ length up

@@ -6,6 +6,7 @@ use mathlib.Core.List.{List}
 use Prim.Native.Nat.{ℕ, suc, _+_, _≤_, _<_}
 use native.Mathlib.Omega.{arith}
 use native.Mathlib.Numerals.{add-one}
+use native.Mathlib.Decide.{ℕ-discrete, decLt}
 use lib.ListN.{getD}
 use Rattle.meaning.specs.Tree.{Forest, bare, tree, size}
 use Rattle.rows.specs.Rows.{below, Holds}
@@ -40,6 +41,21 @@ module _ (span : List ℕ) where
       let w = brother-next _ e r (h .3) a t in
       let m = brother-range _ e r (h .3) a t .0 in
       (⊎-elim inl (λ s. inr (inr s)) (w .0), λ x. ⊎-elim (λ q l. inl (omega arith)) (w .1 x))
+
+  -- no brother lies below a row that comes behind where they begin
+  pub brother-apart : (u e : ℕ) (F : Forest ℕ) → Holds span u e F → (j : ℕ) → Brother j F → (x : ℕ) → u ≤ x → x < j → ¬ (j < x + getD span x 0)
+  brother-apart u e bare h j t x a b c = absurd t
+  brother-apart u e (tree i k r) h j (inl q) x a b c = omega (arith, h .0)
+  brother-apart u e (tree i k r) h j (inr t) x a b c =
+      go (ℕ-discrete x i) (decLt x (suc i + size k)) (λ l. brother-apart _ e r (h .3) j t x l b c)
+    where
+      far : suc i + size k ≤ j
+      far = brother-range _ e r (h .3) j t .0
+
+      go : Dec (x ≡ i) → Dec (x < suc i + size k) → (suc i + size k ≤ x → ⊥) → ⊥
+      go (yes z) d f = let w : getD span x 0 ≡ suc (size k) = rw z (h .1) in omega (arith, far)
+      go (no z) (yes d) f = omega (arith, far, h .0, holds-opens span (suc i) (suc i + size k) k (h .2) x (omega (arith, h .0)) d .inside)
+      go (no z) (no d) f = f (omega arith)
 
 -- ------------------------------------------------------------------ a loop over the children of row p
 -- it has come to row a, the rows of p end at e, and P holds of each child before row a

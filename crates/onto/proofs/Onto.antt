@@ -2,13 +2,13 @@
 -- children.
 use mathlib.Core.Path.{_≡_, refl, sym, ap, _∙_}
 use mathlib.Core.Logic.{inl, inr}
-use mathlib.Core.Bool.{Bool, true, false, Bool·beq}
+use mathlib.Core.Bool.{Bool, true, false, Bool·beq, _&&_}
 use mathlib.Core.List.{List}
 use Prim.Native.Nat.{ℕ, zero, suc, _+_, _/_, _%_, _^_, _≤_, _<_}
 use native.Mathlib.Omega.{arith}
 use lib.ListN.{getD}
 use lib.Dec.{eqb}
-use lib.Bits.{bitAnd, and-mod}
+use lib.Bits.{bitAnd, bitOr, and-mod}
 use borrow.Author.Tests.{eqb-true, eqb-false}
 use Rattle.meaning.specs.Limits.{mostNodes}
 use Rattle.meaning.specs.Basics.{is, decBoth}
@@ -17,10 +17,10 @@ use Rattle.meaning.specs.Folding.{LabLe, decMark}
 use Rattle.theory.proofs.Look.{never}
 use Rattle.theory.proofs.Canon.{height}
 use Rattle.bits.specs.Bits.{bitOf, allTo}
-use Rattle.bits.proofs.Bits.{all-to}
+use Rattle.bits.proofs.Bits.{all-to, both}
 use Rattle.rows.specs.Rows.{labOf, below, Holds}
 use Rattle.rows.proofs.Rows.{Opens, holds-first}
-use Rattle.onto.specs.Left.{Nodes, goneAt, Brother}
+use Rattle.onto.specs.Left.{Nodes, goneAt, Gone, Brother}
 use Rattle.onto.specs.Onto.{Tells, so, not-so, MarksLe, FitsLeft, ChildrenFold, OntoRow, Lands, Stands}
 use Rattle.onto.proofs.Brothers.{Over, over-start, over-child, over-all}
 use Rattle.onto.proofs.Left.{any-of-row, row-of-any, folds-of-rows, row-of-folds}
@@ -55,6 +55,12 @@ eqb-tells x y = go (eqb x y) refl
     go false e = not-so (eqb-false x y e)
 
 -- ------------------------------------------------------------------ marks and labels
+same-bool : (x y : Bool) → Bool·beq x y ≡ true → x ≡ y
+same-bool true true e = refl
+same-bool false false e = refl
+same-bool true false e = never cc
+same-bool false true e = never cc
+
 pub marks-none : (s t : ℕ) → s ≡ 0 → MarksLe s t
 unfolding bitOf
 marks-none s t e = rw e (tt, tt)
@@ -79,14 +85,18 @@ low-bits s t =
 pub marks-tell : (s t : ℕ) → Tells (MarksLe s t) (eqb (bitAnd s t % 4) (s % 4))
 marks-tell s t =
     rw (ap (λ (n : ℕ). eqb n (s % 4)) (and-mod s t 2)
-    ∙ same _ _ (all-to 4 _ (all-to 4 _ all-fit (s % 4) (omega arith)) (t % 4) (omega arith))
+    ∙ same-bool _ _ (all-to 4 _ (all-to 4 _ all-fit (s % 4) (omega arith)) (t % 4) (omega arith))
     ∙ low-bits s t) (is-tells (decBoth (decMark (bitOf s 0) (bitOf t 0)) (decMark (bitOf s 1) (bitOf t 1))))
-  where
-    same : (x y : Bool) → Bool·beq x y ≡ true → x ≡ y
-    same true true e = refl
-    same false false e = refl
-    same true false e = never cc
-    same false true e = never cc
+
+-- the mark of a row that goes, for every byte
+all-go : allTo 256 (λ m. bitOf (bitOr m 128) 7 && allTo 7 (λ k. Bool·beq (bitOf (bitOr m 128) k) (bitOf m k))) ≡ true
+unfolding allTo bitOf
+all-go = refl
+
+pub goes-away : (m : ℕ) → m < 256 → Gone m (bitOr m 128)
+goes-away m l =
+    let z = both _ _ (all-to 256 _ all-go m l) in
+    record { away = z .0; other = λ k b. same-bool _ _ (all-to 7 _ (z .1) k b) }
 
 pub label-any : (x y : ℕ) → x ≡ 0 → LabLe (labOf x) (labOf y)
 label-any x y e = rw e tt

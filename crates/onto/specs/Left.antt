@@ -2,9 +2,9 @@
 -- reached again.
 use mathlib.Core.Path.{_≡_}
 use mathlib.Core.Logic.{_⊎_}
-use mathlib.Core.Bool.{Bool, cond}
+use mathlib.Core.Bool.{Bool, true, cond}
 use mathlib.Core.List.{List}
-use Prim.Native.Nat.{ℕ}
+use Prim.Native.Nat.{ℕ, _<_}
 use lib.ListN.{getD}
 use Rattle.meaning.specs.Tree.{Forest, bare, tree, Tag}
 use Rattle.bits.specs.Bits.{bitOf}
@@ -19,6 +19,10 @@ pub record Nodes : Type 0 where
 abbrev pub nodes : List ℕ → List ℕ → List ℕ → Nodes
 nodes code mark span = record { code = code; mark = mark; span = span }
 
+-- the same with other marks
+abbrev pub marked : Nodes → List ℕ → Nodes
+marked t mark = nodes (t .code) mark (t .span)
+
 -- what row u bears
 abbrev pub tagOf : Nodes → ℕ → Tag
 tagOf t u = tagAt (t .code) (t .mark) u
@@ -30,6 +34,11 @@ goneBit = 7
 -- row u has gone
 abbrev pub goneAt : List ℕ → ℕ → Bool
 goneAt mark u = bitOf (getD mark u 0) goneBit
+
+-- the mark m of a row that goes becomes r: the bit is set, and no other changes
+pub record Gone (m r : ℕ) : Type 0 where
+  pub away : bitOf r goneBit ≡ true
+  pub other : (k : ℕ) → k < goneBit → bitOf r k ≡ bitOf m k
 
 -- row j is one of the brothers
 abbrev pub Brother : ℕ → Forest ℕ → Type 0

@@ -12,7 +12,7 @@ ghost use lib.ListN.{getD};
 ghost use Rattle.meaning.specs.Limits.{mostNodes};
 ghost use Rattle.meaning.specs.Folding.{LabLe, TagLe};
 ghost use Rattle.rows.specs.Rows.{labOf, tagAt};
-ghost use Rattle.onto.specs.Left.{nodes, goneAt};
+ghost use Rattle.onto.specs.Left.{nodes, goneAt, Gone};
 ghost use Rattle.onto.specs.Onto.{Tells, MarksLe, FitsLeft, ChildrenFold, OntoRow, Lands, Stands};
 
 // "u's marks are among v's": most rows bear none.
@@ -53,6 +53,13 @@ pub fn is_gone(mark: &Marks, u: usize) -> bool
     ensures { λ r. ⌜ r ≡ goneAt (now (mark .entry)) u ⌝ }
 {
     bits::bit_of(mark[u], GONE)
+}
+
+// The mark of a row that goes.
+pub fn gone(mark: u8) -> u8
+    ensures { λ r. ⌜ Gone mark r ⌝ }
+{
+    mark | 128
 }
 
 // Row b is still there, and row a fits it.

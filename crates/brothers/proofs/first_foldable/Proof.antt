@@ -31,35 +31,34 @@ first-foldable-spec =
     tie.close
     (tie.spec
     Inv-loop μ-loop Inv-pair μ-pair
-    (λ c. (omega arith, c .before .before .before .before .before .pre .begun, λ x l m. absurd (omega arith)))
-    (λ c κs. search needs) (λ c. (omega arith, λ y l. absurd (omega arith))) (λ c κs. search needs)
+    (λ c. (omega arith, c .pre .begun, λ x l m. absurd (omega arith)))
+    (λ c. search needs) (λ c. search needs) (λ c κs. search needs) (λ c. (omega arith, λ y l. absurd (omega arith)))
+    (λ c. search needs) (λ c. search needs) (λ c κs. search needs)
     (λ c κs.
-    let t = c .before .before in
-    let p = t .before .before .before .before .before .before .before .before .before .before .pre .stand in
-    let u = c .before .before .before .before in
-    (rw (u .link .ensures .0) (p _ (u .before .pair-test .taken)), rw (c .link2 .ensures .0) (p _ (t .loop-test .taken))))
+    let t = c .before .before .before in let u = t .before .before in let i = u .before .before in
+    let p = i .before .before .pre .stand in
+    (rw (u .wide .ensures .0) (p _ (i .pair-test .taken)), rw (c .wide2 .ensures .0) (p _ (t .loop-test .taken))))
     (λ c. search needs) (λ c. search needs)
     (λ c. (
       omega arith,
       below-more _ _ (c .before .before .loop .inv .1)
-          (⊎-elim (λ w n. rw (w .1 .ensures .0) at (no-told (w .2 .ensures) (w .3 .left))) (λ w n. absurd (n (w .left))) (c .if1 .came)),
+          (⊎-elim (λ w n. rw (w .2 .ensures .0) at (no-told (w .3 .ensures) (w .4 .left))) (λ w n. absurd (n (w .left))) (c .if1 .came)),
     ))
     (λ c. search needs) (λ c. search needs)
     (λ c.
-    let l1 = c .before .before in
-    let v = l1 .before .before .pair .inv in
+    let u = c .before .before in let i = u .before .before in
+    let v = i .before .pair .inv in
     let w = c .before .loop .inv .1 in (
       omega (arith, v .0),
-      omega (arith, l1 .before .pair-test .taken),
-      below-more _ _ (v .2)
-          (λ l f. w (f .0) (omega (arith, f .1)) (f .2) (rw (l1 .link .ensures .0) (f .3))),
+      omega (arith, i .pair-test .taken),
+      below-more _ _ (v .2) (λ l f. w (f .0) (omega (arith, f .1)) (f .2) (rw (u .wide .ensures .0) (f .3))),
     ))
     (λ c.
     let v = c .before .pair .inv in
     record { begun = v .0; until = v .1; before = v .2; here = λ l. absurd (omega arith) })
     (λ c.
-    let l1 = c .before .before in let t = l1 .before .before in
-    let v = t .before .before .before .before .pair .inv in
+    let b = c .before .before in let n = b .before .before in let t = n .before in let u = t .before .before in
+    let v = u .before .before .before .pair .inv in
     record {
       begun = v .0;
       until = v .1;
@@ -67,8 +66,7 @@ first-foldable-spec =
       here = λ l. (
         _,
         t .loop-test .taken,
-        l1 .before .if1 .taken,
-        rw (t .before .before .link .ensures .0, l1 .link2 .ensures .0)
-            at (yes-told (c .before .folds-onto .ensures) (c .if2 .taken)),
+        n .if1 .taken,
+        rw (u .wide .ensures .0, b .wide2 .ensures .0) at (yes-told (c .before .folds-onto .ensures) (c .if2 .taken)),
       );
     }))

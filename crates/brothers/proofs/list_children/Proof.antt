@@ -6,6 +6,7 @@ use native.Mathlib.Omega.{arith}
 use lib.ListN.{length, length-set}
 use lib.Seq.{getD-set-same}
 use borrow.Author.Needs.{needs}
+use Rattle.meaning.specs.Limits.{mostNodes}
 use Rattle.onto.proofs.Onto.{yes-told, no-told}
 use Rattle.brothers.specs.Brothers.{Lists}
 use Rattle.onto.proofs.Brothers.{Over, over-start, over-step, over-next}
@@ -24,33 +25,35 @@ pub list-children-spec : {M : Type 1} → statement M
 list-children-spec =
     tie.close
     (tie.spec
-    Inv-loop μ-loop (λ c κs. search needs) (λ c. search needs) (λ c. search needs)
+    Inv-loop μ-loop (λ c. search needs) (λ c. search needs) (λ c κs. search needs) (λ c. search needs) (λ c. search needs)
     (λ c.
-    let h = c .before .before .before .before .pre .held in
-    (refl, omega arith, over-start (omega (arith, c .link .ensures .0)) h, list-start _ _ _ _ h))
-    (λ c. search needs) (λ c. search needs) (λ c. search needs) (λ c κs. search needs) (λ c. search needs) (λ c κs. search needs)
+    let h = c .before .before .pre .0 .held in
+    (refl, omega arith, over-start (omega (arith, c .wide .ensures .0)) h, list-start _ _ _ _ h))
+    (λ c. search needs) (λ c. search needs) (λ c. search needs) (λ c κs. search needs) (λ c. search needs) (λ c. search needs) (λ c. search needs)
+    (λ c κs. search needs)
     (λ c.
-    let t = c .before .before .before in let h = t .before in
-    let z = over-step (h .loop .inv .2) (t .loop-test .taken) (c .link2 .ensures .0) in
-    omega (arith, h .before .before .before .before .before .pre .few, h .loop .inv .2 .ends, z))
-    (λ c. let t = c .before .before .before in omega (arith, over-step (t .before .loop .inv .2) (t .loop-test .taken) (c .link2 .ensures .0)))
+    let t = c .before .before .before .before in let h = t .before in
+    let z = over-step (h .loop .inv .2) (t .loop-test .taken) (c .wide2 .ensures .0) in
+    omega (arith, h .before .before .before .pre .0 .few, h .loop .inv .2 .ends, z))
+    (λ c. let t = c .before .before .before .before in omega (arith, over-step (t .before .loop .inv .2) (t .loop-test .taken) (c .wide2 .ensures .0)))
     (λ c.
-    let i = c .before .before in let h = i .before .before in
+    let j = c .before .before in let i = j .before in let h = i .before .before in
     let v = h .loop .inv in
     let t = i .before .loop-test .taken in
-    let d = c .link2 .ensures .0 in
+    let d = c .wide2 .ensures .0 in
     let z = over-step (v .2) t d in
     let o = over-next (v .2) t d tt in
     let r = i .is-child .ensures in
-    let m : h .loop .k < length (h .loop .child) = omega (arith, h .before .before .before .before .before .pre, v .1, v .2 .ends) in
+    let s = h .before .before .before .pre in
+    let m : h .loop .k < mostNodes = omega (arith, s .0 .few, v .1, v .2 .ends) in
     let L = lists-store (h .loop .c) (v .3) in
     ⊎-elim
     (λ w. rw (w .1) (
       simp length-set (v .0),
       omega (arith, v .1, z),
       o,
-      list-child (v .2) L t d (yes-told r (w .0 .taken)) (simp length-set m) (getD-set-same (h .loop .child) _ _ 0 m),
+      list-child (v .2) L t d (yes-told r (w .0 .taken)) m (getD-set-same (h .loop .child) _ _ 0 (omega (arith, s .1, v .0))),
     ))
     (λ w. rw (w .1) (simp length-set (v .0), omega (arith, v .1, z), o, list-gone (v .2) L t d (no-told r (w .0 .left))))
-    (c .before .if1 .came))
-    (λ c. search needs) (λ c. list-all (c .before .loop .inv .2) (c .before .loop .inv .3) (c .loop-test .left)))
+    (j .if1 .came))
+    (λ c. let v = c .before .loop .inv in (list-all (v .2) (v .3) (c .loop-test .left), v .0)))
