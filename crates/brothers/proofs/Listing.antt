@@ -2,6 +2,7 @@
 -- Nothing is said of their order, so a list of k rows without one of them is a list of k - 1.
 use mathlib.Core.Path.{_≡_, sym, ap, _∙_}
 use mathlib.Core.Logic.{_⊎_, inl, inr, ⊎-elim}
+use mathlib.Core.Bool.{true, false}
 use mathlib.Core.List.{List}
 use Prim.Native.Nat.{ℕ, suc, _+_, _≤_, _<_}
 use native.Mathlib.Omega.{arith}
@@ -10,7 +11,9 @@ use lib.ListN.{length, getD, set}
 use lib.Seq.{getD-set-same, getD-set-other}
 use Rattle.meaning.specs.Limits.{mostNodes}
 use Rattle.rows.specs.Rows.{below, Holds}
+use Rattle.onto.specs.Left.{goneAt}
 use Rattle.brothers.specs.Brothers.{Child, Lists, Listed}
+use Rattle.onto.proofs.Left.{not-both}
 use Rattle.onto.proofs.Brothers.{brother-range, Over, over-child, over-step, over-split}
 
 -- ------------------------------------------------------------------ lists
@@ -128,11 +131,11 @@ lists-less {P} {Q} {child} {k} {m} q i l s L to from =
 -- ------------------------------------------------------------------ the loop that lists the children of row p
 -- a child that is still there and stands before row c
 abbrev pub Before : List ℕ → List ℕ → ℕ → ℕ → ℕ → Type 0
-Before span up p c x = Child span up p x × (x < c)
+Before mark span p c x = Child mark span p x × (x < c)
 
-pub list-start : (span up : List ℕ) (p : ℕ) (child : List ℕ) → Holds span (suc p) (p + getD span p 0) (below span p)
-    → Lists (Before span up p (p + 1)) child 0
-list-start span up p child h =
+pub list-start : (mark span : List ℕ) (p : ℕ) (child : List ℕ) → Holds span (suc p) (p + getD span p 0) (below span p)
+    → Lists (Before mark span p (p + 1)) child 0
+list-start mark span p child h =
     record {
       few = omega arith;
       each = λ i l. absurd (omega arith);
@@ -140,19 +143,19 @@ list-start span up p child h =
       once = λ i j l. absurd (omega arith);
     }
 
-module _ {span up child : List ℕ} {p c e k : ℕ} {P : ℕ → Type 0} (O : Over span p P c e) (L : Lists (Before span up p c) child k) where
-  pub list-all : e ≤ c → Listed span up p child k
+module _ {mark span child : List ℕ} {p c e k : ℕ} {P : ℕ → Type 0} (O : Over span p P c e) (L : Lists (Before mark span p c) child k) where
+  pub list-all : e ≤ c → Listed mark span p child k
   list-all l = lists-same L (λ x b. b .0) (λ x t. (t, omega (arith, brother-range span _ _ (below span p) (O .held) x (t .brother))))
 
   module _ (l : c < e) {s : ℕ} (q : s ≡ getD span c 0) where
     -- row c, which stands behind the list, is there
-    pub list-child : getD up c 0 ≡ p → k < mostNodes → getD child k 0 ≡ c → Lists (Before span up p (c + s)) child (k + 1)
+    pub list-child : goneAt mark c ≡ false → k < mostNodes → getD child k 0 ≡ c → Lists (Before mark span p (c + s)) child (k + 1)
     list-child d r h =
         lists-more L r h (λ b. omega (arith, b .1)) (record { brother = over-child O l .0; there = d }, omega (arith, over-step O l q))
         (λ x b. (b .0, omega (arith, b .1))) (λ x b. ⊎-elim (λ m. inl (b .0, m)) inr (over-split O l q x (b .0 .brother) (b .1)))
 
     -- row c has gone
-    pub list-gone : ¬ (getD up c 0 ≡ p) → Lists (Before span up p (c + s)) child k
+    pub list-gone : goneAt mark c ≡ true → Lists (Before mark span p (c + s)) child k
     list-gone d =
         lists-same L (λ x b. (b .0, omega (arith, b .1)))
-        (λ x b. (b .0, ⊎-elim (λ m. m) (λ z. absurd (d (rw z at (b .0 .there)))) (over-split O l q x (b .0 .brother) (b .1))))
+        (λ x b. (b .0, ⊎-elim (λ m. m) (λ z. not-both d (rw z at (b .0 .there))) (over-split O l q x (b .0 .brother) (b .1))))

@@ -7,6 +7,7 @@ use native.Mathlib.Omega.{arith}
 use lib.ListN.{getD}
 use borrow.Author.Count.{below-more}
 use borrow.Author.Needs.{needs}
+use Rattle.onto.specs.Left.{nodes}
 use Rattle.onto.specs.Onto.{OntoRow}
 use Rattle.brothers.specs.Brothers.{Foldable}
 use Rattle.onto.proofs.Onto.{yes-told, no-told}
@@ -14,17 +15,18 @@ use Rattle.brothers.proofs.first_foldable.Statement.{statement}
 use Rattle.brothers.proofs.first_foldable.Tie as tie
 
 abbrev Inv-loop : tie.InvT-loop
-Inv-loop code mark span up child from k i u j₀ j = (j ≤ k) × ((y : ℕ) → y < j → ¬ (i ≡ y) → ¬ OntoRow code mark span up u (getD child y 0))
+Inv-loop code mark span child from k i u j₀ j =
+    (j ≤ k) × ((y : ℕ) → y < j → ¬ (i ≡ y) → ¬ OntoRow (nodes code mark span) u (nodes code mark span) (getD child y 0))
 
 abbrev μ-loop : tie.MeasureT-loop
-μ-loop code mark span up child from k i u j₀ j = k - j
+μ-loop code mark span child from k i u j₀ j = k - j
 
 abbrev Inv-pair : tie.InvT-pair
-Inv-pair code mark span up child from k i₀ i =
-    (from ≤ i) × (i ≤ k) × ((x : ℕ) → x < i → from ≤ x → ¬ Foldable code mark span up child k x)
+Inv-pair code mark span child from k i₀ i =
+    (from ≤ i) × (i ≤ k) × ((x : ℕ) → x < i → from ≤ x → ¬ Foldable (nodes code mark span) child k x)
 
 abbrev μ-pair : tie.MeasureT-pair
-μ-pair code mark span up child from k i₀ i = k - i
+μ-pair code mark span child from k i₀ i = k - i
 
 pub first-foldable-spec : {M : Type 1} → statement M
 first-foldable-spec =

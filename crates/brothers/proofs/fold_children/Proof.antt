@@ -6,28 +6,31 @@ use native.Mathlib.Omega.{arith}
 use lib.ListN.{length, length-set}
 use borrow.Author.Needs.{needs}
 use Rattle.meaning.specs.Limits.{mostNodes}
+use Rattle.onto.specs.Left.{nodes}
 use Rattle.brothers.specs.Brothers.{Listed}
 use Rattle.brothers.proofs.Children.{Searched, Clear, searched-none, searched-all, searchable, listed-inside, goes, goes-clear, clear-on}
 use Rattle.brothers.proofs.fold_children.Statement.{statement}
 use Rattle.brothers.proofs.fold_children.Tie as tie
 
 abbrev Inv-loop : tie.InvT-loop
-Inv-loop code mark span up₀ p child₀ k₀ i₀ up child k i =
-    (length child ≡ length child₀) × (i ≤ k) × Searched code mark span up₀ p up × Listed span up p child k × Clear code mark span up child k i
+Inv-loop code mark₀ span p child₀ k₀ i₀ mark child k i = (length child ≡ length child₀) × (i ≤ k)
+    × Searched (nodes code mark₀ span) p mark × Listed mark span p child k × Clear (nodes code mark span) child k i
 
 abbrev μ-loop : tie.MeasureT-loop
-μ-loop code mark span up₀ p child₀ k₀ i₀ up child k i = k - i
+μ-loop code mark₀ span p child₀ k₀ i₀ mark child k i = k - i
 
 pub fold-children-spec : {M : Type 1} → statement M
 fold-children-spec =
     tie.close
     (tie.spec
-    Inv-loop μ-loop (λ c κs. search needs)
+    Inv-loop μ-loop
+    (λ c κs.
+    let s = c .before .before .pre in record { some = s .0 .some; few = s .0 .few; held = s .0 .held; room = s .2 })
     (λ c.
     let l = c .before in
     let y = l .list-children .ensures in
-    (searched-all (l .before .before .before .pre .0) (searched-none _ _ _ _ _) (y .0) (λ x a f. f .2 (omega (arith, f .1, c .if1 .taken))), y .1))
-    (λ c. (refl, omega arith, searched-none _ _ _ _ _, c .before .list-children .ensures .0, λ x a. absurd (omega arith)))
+    (searched-all (l .before .before .before .pre .0) (searched-none _ _) (y .0) (λ x a f. f .2 (omega (arith, f .1, c .if1 .taken))), y .1))
+    (λ c. (refl, omega arith, searched-none _ _, c .before .list-children .ensures .0, λ x a. absurd (omega arith)))
     (λ c κs.
     let h = c .before .before .before in
     let v = h .loop .inv in
@@ -37,7 +40,9 @@ fold-children-spec =
     let i = c .before .before in let h = i .before .before .before .before .before in
     let v = h .loop .inv in
     let t = i .if2 .taken in
-    (omega (arith, v .3 .few), omega (arith, v .3 .few), listed-inside (h .before .before .before .before .before .pre .0) (v .2) (v .3) _ t))
+    let s = h .before .before .before .before .before .pre in
+    let z = listed-inside (s .0) (v .2) (v .3) _ t in
+    (omega (arith, v .3 .few), omega (arith, v .3 .few), omega (arith, z, s .0 .few), omega (arith, z, s .1, v .2 .long)))
     (λ c.
     let i = c .before .before .before in
     omega (arith, i .before .first-foldable .ensures .begun, i .if2 .taken))
@@ -49,8 +54,8 @@ fold-children-spec =
     let t = i .if2 .taken in
     let x = c .take-out .ensures in
     let r : mostNodes ≤ length (h .loop .child) = omega (arith, v .0, l .list-children .ensures .1, s .2) in
-    let w = goes (s .0) (v .2) (v .3) (omega arith) t (s .1) r x (f .here t) in
-    (rw (x .list) (simp length-set (v .0)), omega (arith, t), w .0, w .1, goes-clear (s .0) (v .2) (v .3) (omega arith) t (s .1) r x (clear-on (v .4) f)))
+    let w = goes (s .0) (v .2) (v .3) (omega arith) t r x (f .here t) in
+    (rw (x .list) (simp length-set (v .0)), omega (arith, t), w .0, w .1, goes-clear (s .0) (v .2) (v .3) (omega arith) t r x (clear-on (v .4) f)))
     (λ c. omega (arith, c .before .before .before .before .loop-test .taken))
     (λ c.
     let v = c .before .before .before .before .before .loop .inv in
