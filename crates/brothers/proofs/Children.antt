@@ -29,11 +29,14 @@ onto-same p q r s o = rw (p, q, r, s) at o
 
 -- ------------------------------------------------------------------ marks that differ where a row goes
 -- a row that goes bears what it bore
-gone-tag : (code mark mark′ : List ℕ) (i : ℕ) → Gone (getD mark i 0) (getD mark′ i 0) → tagAt code mark′ i ≡ tagAt code mark i
+pub gone-tag : (code mark mark′ : List ℕ) (i : ℕ) → Gone (getD mark i 0) (getD mark′ i 0) → tagAt code mark′ i ≡ tagAt code mark i
 gone-tag code mark mark′ i g = rw (g .other 0 (omega arith), g .other 1 (omega arith))
 
-same-tag : (code mark mark′ : List ℕ) (i : ℕ) → getD mark′ i 0 ≡ getD mark i 0 → tagAt code mark′ i ≡ tagAt code mark i
+pub same-tag : (code mark mark′ : List ℕ) (i : ℕ) → getD mark′ i 0 ≡ getD mark i 0 → tagAt code mark′ i ≡ tagAt code mark i
 same-tag code mark mark′ i e = rw e
+
+pub gone-both : {a b c : ℕ} → Gone a b → Gone b c → Gone a c
+gone-both v w = record { away = w .away; other = λ k l. w .other k l ∙ v .other k l }
 
 -- where no mark changes, the same is left
 pub left-same : (t : Nodes) (mark′ : List ℕ) (u e : ℕ) (F : Forest ℕ) → Holds (t .span) u e F
@@ -80,14 +83,11 @@ loses mark a v l g = record {
 only-trans : (span : List ℕ) (p : ℕ) (f g h : List ℕ) → Only f span p g → Only g span p h → Only f span p h
 only-trans span p f g h x y j = go (x j) (y j)
   where
-    both : {a b c : ℕ} → Gone a b → Gone b c → Gone a c
-    both v w = record { away = w .away; other = λ k l. w .other k l ∙ v .other k l }
-
     go : (getD g j 0 ≡ getD f j 0) ⊎ Goes f span p g j → (getD h j 0 ≡ getD g j 0) ⊎ Goes g span p h j → (getD h j 0 ≡ getD f j 0) ⊎ Goes f span p h j
     go (inl a) (inl b) = inl (b ∙ a)
     go (inl a) (inr w) = inr (record { child = w .child; gone = rw a at (w .gone) })
     go (inr w) (inl b) = inr (record { child = w .child; gone = rw (sym b) at (w .gone) })
-    go (inr w) (inr v) = inr (record { child = w .child; gone = both (w .gone) (v .gone) })
+    go (inr w) (inr v) = inr (record { child = w .child; gone = gone-both (w .gone) (v .gone) })
 
 module _ {t : Nodes} {p a : ℕ} (S : Stands t p) (C : Child (t .mark) (t .span) p a) {mark′ : List ℕ}
     (G : Loses (t .mark) a mark′) where

@@ -3,7 +3,7 @@
 use mathlib.Core.Path.{_≡_, refl, sym, ap, _∙_}
 use mathlib.Core.Logic.{_⊎_, inl, inr}
 use mathlib.Core.List.{List, [], _∷_, _++_, append-assoc, append-nil}
-use mathlib.Core.Bool.{cond}
+use mathlib.Core.Bool.{Bool, true, false, cond}
 use Prim.Native.Nat.{ℕ, suc, _+_, _-_, _≤_, _<_}
 use native.Mathlib.Omega.{arith}
 use native.Mathlib.Numerals.{add-one}
@@ -16,9 +16,9 @@ use Rattle.meaning.specs.Limits.{mostNodes}
 use Rattle.meaning.specs.Tree.{Forest, bare, tree, size}
 use Rattle.rows.specs.Rows.{tagAt, shape, mapT, treeRows, Holds, width, Counted, Hung, noRow}
 use Rattle.rows.proofs.Rows.{size-mapT, width-mapT, size-holds, holds-is, row-opens, rows-top, row-up}
-use Rattle.onto.specs.Left.{goneRow, kept, left}
-use Rattle.onto.proofs.Left.{kept-bare, kept-here, kept-away}
-use Rattle.fold.specs.Kept.{SomeGone, Remains, parentMoved, Movable, RowMoved, RowsKept}
+use Rattle.onto.specs.Left.{goneAt, Gone, kept, left}
+use Rattle.onto.proofs.Left.{not-both, kept-bare, kept-here, kept-away}
+use Rattle.fold.specs.Kept.{Remains, parentMoved, Movable, RowMoved, RowsKept}
 
 -- ------------------------------------------------------------------ the nodes of a forest in image order
 -- a number for each node, by its row and what lies below it
@@ -30,8 +30,8 @@ length-values : (f : ℕ → Forest ℕ → ℕ) (F : Forest ℕ) → length (va
 length-values f bare = refl
 length-values f (tree i k r) = let x = length-values f k in let y = length-values f r in omega (arith, length-append (values f k) (values f r))
 
-abbrev nodes : Forest ℕ → List ℕ
-nodes = values (λ i k. i)
+abbrev rowsOf : Forest ℕ → List ℕ
+rowsOf = values (λ i k. i)
 
 -- P of each node and its place, from place t on
 abbrev Spread : (ℕ → ℕ → Forest ℕ → Type 0) → ℕ → Forest ℕ → Type 0
@@ -64,54 +64,52 @@ spread-nodes G (tree i k r) t xs ys e = (
 
 -- ------------------------------------------------------------------ the walk
 -- the rows that a walk from row i meets: it steps over a row that has gone with all below it
-pub data Walk (span up : List ℕ) (n : ℕ) : ℕ → List ℕ → Type 0 where
-  stop : {i : ℕ} → n ≤ i → Walk span up n i []
-  skip : {i : ℕ} {xs : List ℕ} → i < n → getD up i 0 ≡ goneRow → Walk span up n (i + getD span i 0) xs → Walk span up n i xs
-  take : {i : ℕ} {xs : List ℕ} → i < n → ¬ (getD up i 0 ≡ goneRow) → Walk span up n (suc i) xs → Walk span up n i (i ∷ xs)
+pub data Walk (mark span : List ℕ) (n : ℕ) : ℕ → List ℕ → Type 0 where
+  stop : {i : ℕ} → n ≤ i → Walk mark span n i []
+  skip : {i : ℕ} {xs : List ℕ} → i < n → goneAt mark i ≡ true → Walk mark span n (i + getD span i 0) xs → Walk mark span n i xs
+  take : {i : ℕ} {xs : List ℕ} → i < n → goneAt mark i ≡ false → Walk mark span n (suc i) xs → Walk mark span n i (i ∷ xs)
 
-module _ {span up : List ℕ} {n : ℕ} where
-  walk-skip : {i : ℕ} {xs : List ℕ} → Walk span up n i xs → i < n → getD up i 0 ≡ goneRow → Walk span up n (i + getD span i 0) xs
+module _ {mark span : List ℕ} {n : ℕ} where
+  walk-skip : {i : ℕ} {xs : List ℕ} → Walk mark span n i xs → i < n → goneAt mark i ≡ true → Walk mark span n (i + getD span i 0) xs
   walk-skip (stop l) m e = absurd (omega arith)
   walk-skip (skip l g w) m e = w
-  walk-skip (take l d w) m e = absurd (d e)
+  walk-skip (take l d w) m e = not-both e d
 
-  walk-take : {i : ℕ} {xs : List ℕ} → Walk span up n i xs → i < n → ¬ (getD up i 0 ≡ goneRow)
-      → (ys : List ℕ) × (xs ≡ i ∷ ys) × Walk span up n (suc i) ys
+  walk-take : {i : ℕ} {xs : List ℕ} → Walk mark span n i xs → i < n → goneAt mark i ≡ false
+      → (ys : List ℕ) × (xs ≡ i ∷ ys) × Walk mark span n (suc i) ys
   walk-take (stop l) m e = absurd (omega arith)
-  walk-take (skip l g w) m e = absurd (e g)
+  walk-take (skip l g w) m e = not-both g e
   walk-take (take {xs = ys} l d w) m e = (ys, refl, w)
 
-  walk-stop : {i : ℕ} {xs : List ℕ} → Walk span up n i xs → n ≤ i → xs ≡ []
+  walk-stop : {i : ℕ} {xs : List ℕ} → Walk mark span n i xs → n ≤ i → xs ≡ []
   walk-stop (stop l) m = refl
   walk-stop (skip l g w) m = absurd (omega arith)
   walk-stop (take l d w) m = absurd (omega arith)
 
-module _ (span up was : List ℕ) (n : ℕ) (few : n ≤ mostNodes) (only : SomeGone n was up) where
-  -- it meets the nodes that are left, in their order
-  walk-nodes : (p u e : ℕ) (F : Forest ℕ) (xs : List ℕ) → Holds span u e F → Hung was p F → ¬ (p ≡ goneRow) → e ≤ n → Walk span up n e xs
-      → Walk span up n u (nodes (kept up p F) ++ xs)
-  walk-nodes p u e bare xs h g d l w = rw (kept-bare up p, h) w
-  walk-nodes p u e (tree i k r) xs h g d l w =
-      let s = size-holds span (suc i + size k) e r (h .3) in
-      let w′ = walk-nodes p (suc i + size k) e r xs (h .3) (g .2) d l w in
-      rw (h .0) (go (only i) (omega arith) w′ (λ ys y. walk-nodes i (suc i) (suc i + size k) k ys (h .2) (g .1) (λ q. omega arith) (omega arith) y))
-    where
-      go : (getD up i 0 ≡ getD was i 0) ⊎ ((0 < i) × (i < n) × (getD up i 0 ≡ goneRow)) → i < n
-          → Walk span up n (suc i + size k) (nodes (kept up p r) ++ xs)
-          → ((ys : List ℕ) → Walk span up n (suc i + size k) ys → Walk span up n (suc i) (nodes (kept up i k) ++ ys))
-          → Walk span up n i (nodes (kept up p (tree i k r)) ++ xs)
-      go (inl e′) m x f =
-          let q = e′ ∙ g .0 in
-          rw (kept-here up p i k r q, append-assoc (nodes (kept up i k)) (nodes (kept up p r)) xs) (take m (λ z. d (sym q ∙ z)) (f (nodes (kept up p r) ++ xs) x))
-      go (inr y) m x f =
-          let z : i + getD span i 0 ≡ suc i + size k = omega (arith, h .1) in
-          let x′ : Walk span up n (i + getD span i 0) (nodes (kept up p r) ++ xs) = rw z x in
-          rw (kept-away up p i k r (λ q. d (sym q ∙ y .2))) (skip m (y .2) x′)
+-- it meets the nodes that are left, in their order
+walk-nodes : (mark span : List ℕ) (n u e : ℕ) (F : Forest ℕ) (xs : List ℕ) → Holds span u e F → e ≤ n → Walk mark span n e xs
+    → Walk mark span n u (rowsOf (kept mark F) ++ xs)
+walk-nodes mark span n u e bare xs h l w = rw (kept-bare mark, h) w
+walk-nodes mark span n u e (tree i k r) xs h l w =
+    let s = size-holds span (suc i + size k) e r (h .3) in
+    rw (h .0) (go (goneAt mark i) refl (omega arith) (walk-nodes mark span n (suc i + size k) e r xs (h .3) l w)
+    (λ ys y. walk-nodes mark span n (suc i) (suc i + size k) k ys (h .2) (omega arith) y))
+  where
+    go : (b : Bool) → goneAt mark i ≡ b → i < n → Walk mark span n (suc i + size k) (rowsOf (kept mark r) ++ xs)
+        → ((ys : List ℕ) → Walk mark span n (suc i + size k) ys → Walk mark span n (suc i) (rowsOf (kept mark k) ++ ys))
+        → Walk mark span n i (rowsOf (kept mark (tree i k r)) ++ xs)
+    go false d m x f =
+        rw (kept-here mark i k r d, append-assoc (rowsOf (kept mark k)) (rowsOf (kept mark r)) xs) (take m d (f (rowsOf (kept mark r) ++ xs) x))
+    go true d m x f =
+        let z : i + getD span i 0 ≡ suc i + size k = omega (arith, h .1) in
+        let x′ : Walk mark span n (i + getD span i 0) (rowsOf (kept mark r) ++ xs) = rw z x in
+        rw (kept-away mark i k r d) (skip m d x′)
 
 -- ------------------------------------------------------------------ a row and its place
 -- row x, one of the first i, is at place t
 pub record Fact (code₀ mark₀ up code mark parent moved : List ℕ) (i t x : ℕ) : Type 0 where
   pub low : x < i
+  pub there : goneAt mark₀ x ≡ false
   pub place : getD moved x 0 ≡ t
   pub codes : getD code t 0 ≡ getD code₀ x 0
   pub marks : getD mark t 0 ≡ getD mark₀ x 0
@@ -121,7 +119,7 @@ pub record Fact (code₀ mark₀ up code mark parent moved : List ℕ) (i t x : 
 fact-later : {code₀ mark₀ up code mark parent moved : List ℕ} {i t x : ℕ} (i′ : ℕ) → i ≤ i′ → Fact code₀ mark₀ up code mark parent moved i t x
     → Fact code₀ mark₀ up code mark parent moved i′ t x
 fact-later i′ l f =
-    record { low = omega (arith, f .low); place = f .place; codes = f .codes; marks = f .marks; parents = f .parents; above = f .above }
+    record { low = omega (arith, f .low); there = f .there; place = f .place; codes = f .codes; marks = f .marks; parents = f .parents; above = f .above }
 
 module _ (up moved : List ℕ) (i : ℕ) where
   pub parent-top : getD up i 0 ≡ noRow → noRow ≡ parentMoved up moved i
@@ -146,6 +144,7 @@ module _ {code₀ mark₀ up code mark parent moved : List ℕ} {i j : ℕ} {cod
   fact-kept {t} {x} l f =
       record {
         low = omega (arith, f .low);
+        there = f .there;
         place = rw (M .moves) (getD-set-other moved i x j 0 (λ e. omega (arith, f .low)) ∙ f .place);
         codes = rw (M .codes) (getD-set-other code j t (getD code i 0) 0 (λ e. omega arith) ∙ f .codes);
         marks = rw (M .marks) (getD-set-other mark j t (getD mark i 0) 0 (λ e. omega arith) ∙ f .marks);
@@ -156,51 +155,57 @@ module _ {code₀ mark₀ up code mark parent moved : List ℕ} {i j : ℕ} {cod
       }
 
   -- row i has its place
-  fact-new : Movable code mark up i parent moved j → getD code i 0 ≡ getD code₀ i 0 → getD mark i 0 ≡ getD mark₀ i 0
-      → (getD up i 0 ≡ noRow) ⊎ (getD up i 0 < i) → Fact code₀ mark₀ up code′ mark′ parent′ moved′ (i + 1) j i
-  fact-new Y ec em a =
-      let l = Y .front in
+  fact-new : goneAt mark₀ i ≡ false → j < length code → j < length mark → j < length parent → i < length moved → getD code i 0 ≡ getD code₀ i 0
+      → getD mark i 0 ≡ getD mark₀ i 0 → (getD up i 0 ≡ noRow) ⊎ (getD up i 0 < i) → Fact code₀ mark₀ up code′ mark′ parent′ moved′ (i + 1) j i
+  fact-new d lc lm lp lv ec em a =
       record {
         low = omega arith;
-        place = rw (M .moves) (getD-set-same moved i j 0 (Y .moves));
-        codes = rw (M .codes) (getD-set-same code j (getD code i 0) 0 (omega (arith, Y .codes)) ∙ ec);
-        marks = rw (M .marks) (getD-set-same mark j (getD mark i 0) 0 (omega (arith, Y .marks)) ∙ em);
+        there = d;
+        place = rw (M .moves) (getD-set-same moved i j 0 lv);
+        codes = rw (M .codes) (getD-set-same code j (getD code i 0) 0 lc ∙ ec);
+        marks = rw (M .marks) (getD-set-same mark j (getD mark i 0) 0 lm ∙ em);
         parents =
             rw (M .parents, M .moves)
-            (getD-set-same parent j (parentMoved up moved i) 0 (Y .parents) ∙ sym (parent-same up moved i j i a (omega arith)));
+            (getD-set-same parent j (parentMoved up moved i) 0 lp ∙ sym (parent-same up moved i j i a (omega arith)));
         above = a;
       }
 
 -- ------------------------------------------------------------------ the loop
--- the walk stands at row i, and the first j nodes have their places
+-- the walk stands at row i, and the first j rowsOf have their places
 pub record Moving (code₀ mark₀ span up : List ℕ) (n : ℕ) (code mark parent moved : List ℕ) (i j : ℕ) : Type 0 where
-  pub walk : Walk span up n i (drop j (nodes (kept up noRow (shape span n))))
-  pub count : j ≤ length (nodes (kept up noRow (shape span n)))
+  pub walk : Walk mark₀ span n i (drop j (rowsOf (kept mark₀ (shape span n))))
+  pub count : j ≤ length (rowsOf (kept mark₀ (shape span n)))
   pub until : i ≤ n
   pub room : j ≤ i
-  pub facts : (t : ℕ) → t < j → Fact code₀ mark₀ up code mark parent moved i t (getD (nodes (kept up noRow (shape span n))) t 0)
+  pub facts : (t : ℕ) → t < j → Fact code₀ mark₀ up code mark parent moved i t (getD (rowsOf (kept mark₀ (shape span n))) t 0)
   pub ahead : (x : ℕ) → i ≤ x → (getD code x 0 ≡ getD code₀ x 0) × (getD mark x 0 ≡ getD mark₀ x 0)
   pub codes : length code ≡ length code₀
   pub marks : length mark ≡ length mark₀
 
 module _ {code₀ mark₀ span up : List ℕ} {n : ℕ} (R : Remains code₀ mark₀ span up n) where
   abbrev F : Forest ℕ
-  F = kept up noRow (shape span n)
+  F = kept mark₀ (shape span n)
 
-  parent-before : (i : ℕ) → i < n → ¬ (getD up i 0 ≡ goneRow) → (getD up i 0 ≡ noRow) ⊎ (getD up i 0 < i)
-  parent-before i l d = go (R .only i) (ℕ-discrete i 0)
+  parent-before : (i : ℕ) → i < n → (getD up i 0 ≡ noRow) ⊎ (getD up i 0 < i)
+  parent-before i l = go (ℕ-discrete i 0)
     where
-      go : (getD up i 0 ≡ getD (R .was) i 0) ⊎ ((0 < i) × (i < n) × (getD up i 0 ≡ goneRow)) → Dec (i ≡ 0) → (getD up i 0 ≡ noRow) ⊎ (getD up i 0 < i)
-      go (inl e) (yes z) = inl (e ∙ rw z (rows-top code₀ mark₀ (R .kids) span (R .was) n (R .rows) (omega arith) .up-none))
-      go (inl e) (no z) = inr (rw e (row-up code₀ mark₀ (R .kids) span (R .was) n (R .rows) i (omega arith) l .0))
-      go (inr y) z = absurd (d (y .2))
+      go : Dec (i ≡ 0) → (getD up i 0 ≡ noRow) ⊎ (getD up i 0 < i)
+      go (yes z) = inl (rw z (rows-top code₀ (R .was) (R .kids) span up n (R .rows) (omega arith) .up-none))
+      go (no z) = inr (row-up code₀ (R .was) (R .kids) span up n (R .rows) i (omega arith) l .0)
+
+  -- a row that is there bears the mark that it bore
+  mark-was : (x : ℕ) → goneAt mark₀ x ≡ false → getD mark₀ x 0 ≡ getD (R .was) x 0
+  mark-was x d = go (R .only x)
+    where
+      go : (getD mark₀ x 0 ≡ getD (R .was) x 0) ⊎ ((0 < x) × (x < n) × Gone (getD (R .was) x 0) (getD mark₀ x 0)) → getD mark₀ x 0 ≡ getD (R .was) x 0
+      go (inl e) = e
+      go (inr g) = not-both (g .2 .away) d
 
   pub moving-none : (parent moved : List ℕ) → Moving code₀ mark₀ span up n code₀ mark₀ parent moved 0 0
   moving-none parent moved =
       record {
         walk =
-            rw append-nil at (walk-nodes span up (R .was) n (R .rows .few) (R .only) noRow 0 n (shape span n) [] (R .rows .laid) (R .rows .hung)
-            (λ e. omega arith) (omega arith) (stop (omega arith)));
+            rw append-nil at (walk-nodes mark₀ span n 0 n (shape span n) [] (R .rows .laid) (omega arith) (stop (omega arith)));
         count = omega arith;
         until = omega arith;
         room = omega arith;
@@ -215,10 +220,10 @@ module _ {code₀ mark₀ span up : List ℕ} {n : ℕ} (R : Remains code₀ mar
     pub moving-step : i < n → {s : ℕ} → s ≡ getD span i 0 → (1 ≤ s) × (i + s ≤ n)
     moving-step l e = let o = row-opens span n (R .rows .laid) i l in (omega (arith, o .some), omega (arith, o .inside))
 
-    pub moving-skip : i < n → getD up i 0 ≡ goneRow → {s : ℕ} → s ≡ getD span i 0 → Moving code₀ mark₀ span up n code mark parent moved (i + s) j
+    pub moving-skip : i < n → goneAt mark i ≡ true → {s : ℕ} → s ≡ getD span i 0 → Moving code₀ mark₀ span up n code mark parent moved (i + s) j
     moving-skip l g {s} e =
         record {
-          walk = rw e (walk-skip (M .walk) l g);
+          walk = rw e (walk-skip (M .walk) l (rw (M .ahead i (omega arith) .1) at g));
           count = M .count;
           until = moving-step l e .1;
           room = omega (arith, M .room);
@@ -229,31 +234,22 @@ module _ {code₀ mark₀ span up : List ℕ} {n : ℕ} (R : Remains code₀ mar
         }
 
     -- row i is put at place j
-    pub moving-fits : i < n → ¬ (getD up i 0 ≡ goneRow) → n ≤ length parent → n ≤ length moved → Movable code mark up i parent moved j
-    moving-fits l d lp lv =
-        record {
-          codes = omega (arith, M .codes, R .rows .codes);
-          marks = omega (arith, M .marks, R .rows .marks);
-          ups = omega (arith, R .ups);
-          parents = omega (arith, M .room);
-          moves = omega arith;
-          front = M .room;
-          few = omega (arith, R .rows .few);
-          above = go (parent-before i l d);
-        }
+    pub moving-fits : i < n → Movable up i j
+    moving-fits l = record { front = M .room; few = omega (arith, R .rows .few); above = go (parent-before i l) }
       where
-        go : (getD up i 0 ≡ noRow) ⊎ (getD up i 0 < i) → (getD up i 0 ≡ noRow) ⊎ (getD up i 0 < length moved)
+        go : (getD up i 0 ≡ noRow) ⊎ (getD up i 0 < i) → (getD up i 0 ≡ noRow) ⊎ (getD up i 0 < mostNodes)
         go (inl e) = inl e
-        go (inr b) = inr (omega arith)
+        go (inr b) = inr (omega (arith, R .rows .few))
 
-    pub moving-take : i < n → ¬ (getD up i 0 ≡ goneRow) → n ≤ length parent → n ≤ length moved → {code′ mark′ parent′ moved′ : List ℕ}
+    pub moving-take : i < n → goneAt mark i ≡ false → n ≤ length parent → n ≤ length moved → {code′ mark′ parent′ moved′ : List ℕ}
         → RowMoved code mark up i parent moved j code′ mark′ parent′ moved′ → Moving code₀ mark₀ span up n code′ mark′ parent′ moved′ (i + 1) (j + 1)
-    moving-take l d lp lv {code′} {mark′} {parent′} {moved′} P =
+    moving-take l g lp lv {code′} {mark′} {parent′} {moved′} P =
+        let d : goneAt mark₀ i ≡ false = rw (M .ahead i (omega arith) .1) at g in
         let w = walk-take (M .walk) l d in
-        let c : j < length (nodes F) = omega (arith, simp length-drop at (ap length (w .1))) in
-        let e = drop-cons (nodes F) j 0 c in
-        let x : getD (nodes F) j 0 ≡ i = cc (w .1) in
-        let y : w .0 ≡ drop (suc j) (nodes F) = cc (w .1) in
+        let c : j < length (rowsOf F) = omega (arith, simp length-drop at (ap length (w .1))) in
+        let e = drop-cons (rowsOf F) j 0 c in
+        let x : getD (rowsOf F) j 0 ≡ i = cc (w .1) in
+        let y : w .0 ≡ drop (suc j) (rowsOf F) = cc (w .1) in
         let r = M .room in
         record {
           walk = rw (add-one, add-one, ← y) (w .2);
@@ -269,35 +265,37 @@ module _ {code₀ mark₀ span up : List ℕ} {n : ℕ} (R : Remains code₀ mar
           marks = rw (P .marks) (length-set mark j (getD mark i 0) ∙ M .marks);
         }
       where
-        fact : (t : ℕ) → t < j + 1 → getD (nodes F) j 0 ≡ i → Dec (t < j)
-            → Fact code₀ mark₀ up code′ mark′ parent′ moved′ (i + 1) t (getD (nodes F) t 0)
+        fact : (t : ℕ) → t < j + 1 → getD (rowsOf F) j 0 ≡ i → Dec (t < j)
+            → Fact code₀ mark₀ up code′ mark′ parent′ moved′ (i + 1) t (getD (rowsOf F) t 0)
         fact t m x (yes b) = fact-kept P b (M .facts t b)
         fact t m x (no b) =
             let a = M .ahead i (omega arith) in
             let q : t ≡ j = omega arith in
-            rw (q, x) (fact-new P (moving-fits l d lp lv) (a .0) (a .1) (parent-before i l d))
+            let r = M .room in
+            rw (q, x) (fact-new P (rw (a .1) at g) (omega (arith, M .codes, R .rows .codes)) (omega (arith, M .marks, R .rows .marks, R .long)) (omega arith) (omega arith)
+            (a .0) (a .1) (parent-before i l))
 
 -- ------------------------------------------------------------------ the new rows
-hung-kept : (up : List ℕ) (p : ℕ) (F : Forest ℕ) → Hung up p (kept up p F)
-hung-kept up p bare = rw (kept-bare up p) tt
-hung-kept up p (tree i k r) = go (ℕ-discrete (getD up i 0) p) (hung-kept up i k) (hung-kept up p r)
+hung-kept : (mark up : List ℕ) (p : ℕ) (F : Forest ℕ) → Hung up p F → Hung up p (kept mark F)
+hung-kept mark up p bare h = rw (kept-bare mark) tt
+hung-kept mark up p (tree i k r) h = go (goneAt mark i) refl (hung-kept mark up i k (h .1)) (hung-kept mark up p r (h .2))
   where
-    go : Dec (getD up i 0 ≡ p) → Hung up i (kept up i k) → Hung up p (kept up p r) → Hung up p (kept up p (tree i k r))
-    go (yes e) x y = rw (kept-here up p i k r e) (e, x, y)
-    go (no n) x y = rw (kept-away up p i k r n) y
+    go : (b : Bool) → goneAt mark i ≡ b → Hung up i (kept mark k) → Hung up p (kept mark r) → Hung up p (kept mark (tree i k r))
+    go false e x y = rw (kept-here mark i k r e) (h .0, x, y)
+    go true e x y = rw (kept-away mark i k r e) y
 
-width-kept : (up : List ℕ) (p : ℕ) (F : Forest ℕ) → width (kept up p F) ≤ width F
-width-kept up p bare = rw (kept-bare up p) (omega arith)
-width-kept up p (tree i k r) = go (ℕ-discrete (getD up i 0) p) (width-kept up p r)
+width-kept : (mark : List ℕ) (F : Forest ℕ) → width (kept mark F) ≤ width F
+width-kept mark bare = rw (kept-bare mark) (omega arith)
+width-kept mark (tree i k r) = go (goneAt mark i) refl (width-kept mark r)
   where
-    go : Dec (getD up i 0 ≡ p) → width (kept up p r) ≤ width r → width (kept up p (tree i k r)) ≤ suc (width r)
-    go (yes e) y = rw (kept-here up p i k r e) (omega arith)
-    go (no n) y = rw (kept-away up p i k r n) (omega arith)
+    go : (b : Bool) → goneAt mark i ≡ b → width (kept mark r) ≤ width r → width (kept mark (tree i k r)) ≤ suc (width r)
+    go false e y = rw (kept-here mark i k r e) (omega arith)
+    go true e y = rw (kept-away mark i k r e) (omega arith)
 
 module _ {code₀ mark₀ span up : List ℕ} {n : ℕ} (R : Remains code₀ mark₀ span up n) {code mark parent moved : List ℕ} {i j : ℕ}
     (M : Moving code₀ mark₀ span up n code mark parent moved i j) (l : n ≤ i) (lp : n ≤ length parent) where
   abbrev K : Forest ℕ
-  K = kept up noRow (shape span n)
+  K = kept mark₀ (shape span n)
 
   abbrev to : ℕ → ℕ
   to x = getD moved x 0
@@ -342,13 +340,13 @@ module _ {code₀ mark₀ span up : List ℕ} {n : ℕ} (R : Remains code₀ mar
   all-moved : Moved noRow 0 j K
   all-moved =
       rows-moved noRow noRow 0 j K (spread-nodes K K 0 (λ f. []) (λ f. []) (λ f. (sym (append-nil (values f K)), refl)))
-      (hung-kept up noRow (shape span n)) refl (omega (arith, size-is))
+      (hung-kept mark₀ up noRow (shape span n) (R .rows .hung)) refl (omega (arith, size-is))
 
   shape-is : shape spans j ≡ mapT to K
   unfolding shape
   shape-is = holds-is j spans 0 j (mapT to K) (all-moved .1) (omega arith)
 
-  pub moving-all : RowsKept code₀ mark₀ span up n code mark parent j
+  pub moving-all : RowsKept code₀ mark₀ span n code mark parent j
   unfolding treeRows left
   moving-all =
       let r = M .room in
@@ -360,16 +358,16 @@ module _ {code₀ mark₀ span up : List ℕ} {n : ℕ} (R : Remains code₀ mar
         rows = record {
           few = omega (arith, R .rows .few);
           codes = omega (arith, M .codes, R .rows .codes);
-          marks = omega (arith, M .marks, R .rows .marks);
+          marks = omega (arith, M .marks, R .rows .marks, R .long);
           counts = omega (arith, length-values (λ i k. width k) K);
           spans = omega (arith, length-values (λ i k. suc (size k)) K);
           ups = omega arith;
           labels = λ t m. let f = M .facts t m in rw (f .codes) (R .rows .labels _ (omega (arith, f .low)));
-          marked = λ t m. let f = M .facts t m in rw (f .marks) (R .rows .marked _ (omega (arith, f .low)));
+          marked = λ t m. let f = M .facts t m in rw (f .marks, mark-was R _ (f .there)) (R .rows .marked _ (omega (arith, f .low)));
           laid = rw shape-is (all-moved .1);
           counted = rw shape-is (all-moved .2);
           hung = rw shape-is (all-moved .3);
-          single = rw (shape-is, width-mapT to K) (omega (arith, width-kept up noRow (shape span n), R .rows .single));
+          single = rw (shape-is, width-mapT to K) (omega (arith, width-kept mark₀ (shape span n), R .rows .single));
         };
         tree = ap (mapT (tagAt code mark)) shape-is ∙ all-moved .0;
       }

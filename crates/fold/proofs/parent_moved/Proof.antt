@@ -11,12 +11,10 @@ parent-moved-spec =
     tie.close
     (tie.spec
     (λ c. search needs) (λ c. search needs)
-    (λ c. parent-top _ (c .before .before .before .before .args .moved .now) _ (c .if1 .taken))
+    (λ c. parent-top _ (c .before .before .args .moved .now) _ (c .if1 .taken))
     (λ c κs. search needs)
-    (λ c. ⊎-elim (λ e. absurd (c .before .if1 .left e)) (λ l. omega (arith, c .wide .ensures .0)) (c .before .before .before .before .before .pre .1))
+    (λ c. ⊎-elim (λ e. absurd (c .before .if1 .left e)) (λ l. omega (arith, c .wide .ensures .0)) (c .before .before .before .pre .1))
+    (λ c. ⊎-elim (λ e. absurd (c .before .if1 .left e)) (λ l. omega (arith, c .wide .ensures .0)) (c .before .before .before .pre .1))
     (λ c.
-    let i = c .before .before in
-    ⊎-elim (λ e. absurd (i .if1 .left e)) (λ l. omega (arith, c .before .wide .ensures .0)) (i .before .before .before .before .pre .1))
-    (λ c.
-    let i1 = c .before .before in let s = i1 .before .before .before .before in
-    parent-row (s .args .up .now) (s .args .moved .now) (s .args .i) (i1 .if1 .left) _ (c .before .wide .ensures .0)))
+    let i = c .before .before in let s = i .before .before in
+    parent-row (s .args .up .now) (s .args .moved .now) (s .args .i) (i .if1 .left) _ (c .before .wide .ensures .0)))
