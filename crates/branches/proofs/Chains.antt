@@ -6,6 +6,7 @@ use Prim.Native.Nat.{ℕ, zero, suc, _+_, _≤_, _<_}
 use native.Mathlib.Omega.{arith}
 use lib.ListN.{length, getD, length-append}
 use lib.Dec.{ltb}
+use Rattle.meaning.specs.Limits.{mostNodes}
 use Rattle.meaning.specs.Expression.{Expr, child, label}
 use Rattle.meaning.specs.TreeQuery.{Lab, any, lab}
 use Rattle.meaning.specs.Tree.{Forest, bare, tree, Tag}
@@ -42,14 +43,21 @@ unfolding labelAt
 label-some code u from at zero e z = absurd (z refl)
 label-some code u from at (suc l) e z = let q : 9 + l ≡ 8 + suc l = omega arith in rw (← e, ← q) (fill-one from at (label l))
 
--- row u: it opens, its children are counted
+-- row u: it is in the tables, it opens, its children are counted
+pub row-few : {code kids span : List ℕ} {u : ℕ} → Row code kids span u → u < mostNodes
+row-few R = omega (arith, R .within, R .rows .few)
+
 pub row-open : {code kids span : List ℕ} {u : ℕ} (R : Row code kids span u) → Opens span u (R .n)
 row-open {code} {kids} {span} {u} R = row-opens span (R .n) (R .rows .laid) u (R .within)
 
 pub row-width : {code kids span : List ℕ} {u : ℕ} (R : Row code kids span u) → getD kids u 0 ≡ width (below span u)
 row-width {code} {kids} {span} {u} R = row-kids code (R .mark) kids span (R .up) (R .n) (R .rows) u (R .within) .0
 
--- a later row of row u's part
+-- the rows of row u's part are in the tables
+pub row-stop : {code kids span : List ℕ} {u : ℕ} → Row code kids span u → u + getD span u 0 ≤ mostNodes
+row-stop R = omega (arith, row-open R .inside, R .rows .few)
+
+-- a later row of it
 pub row-in : {code kids span : List ℕ} {u : ℕ} → Row code kids span u → (c : ℕ) → c < u + getD span u 0 → Row code kids span c
 row-in R c l = let o = row-open R .inside in record { mark = R .mark; up = R .up; n = R .n; rows = R .rows; within = omega arith }
 
