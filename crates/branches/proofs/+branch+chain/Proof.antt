@@ -4,11 +4,10 @@ use mathlib.Core.Path.{_≡_, refl}
 use native.Mathlib.Omega.{arith}
 use borrow.Author.Needs.{needs}
 use lib.ListN.{length, getD}
-use Rattle.meaning.specs.Limits.{mostNodes}
 use Rattle.branches.specs.Joining.{fill}
 use Rattle.branches.specs.Factors.{onwardAt}
 use Rattle.branches.proofs.Joining.{written-length, left-end}
-use Rattle.branches.proofs.Chains.{row-few, row-stop, row-in, row-below, row-one, Off, off-end, onward-one, more-start}
+use Rattle.branches.proofs.Chains.{row-few, row-in, row-below, row-one, Off, off-row, off-end, onward-one, more-start}
 use Rattle.branches.proofs.Chains.{child-fits, label-fits, onward-reached, onward-fits, chain-done, chain-on}
 use Rattle.branches.proofs.Chains.{chain-fits, five-fits, branch-done, later-branch, later-joint, later-next}
 use Prim.Native.Nat.{ℕ, _<_}
@@ -48,7 +47,7 @@ chain-below t = and 4 chain-kinds.ps (falls 4 chain-kinds.ps _<_ μ-chain t) cha
 
 abbrev chain-Inv-loop : chain-lts.InvT-loop
 chain-Inv-loop code kids span u room₀ from at below end stop c₀ place₀ room c place =
-    (u < c) × (stop ≤ mostNodes) × (stop ≡ u + getD span u 0) × Off code span u u c stop room₀ from place₀ (onwardAt code span u) room place
+    (u < c) × (stop ≡ u + getD span u 0) × Off code span u u c stop room₀ from place₀ (onwardAt code span u) room place
     × (place₀ + length (fill from place₀ (onwardAt code span u)) ≤ length room₀)
 
 abbrev chain-μ-loop : chain-lts.MeasureT-loop
@@ -58,12 +57,10 @@ pub +branch+chain-spec : {M : Type 1} → statement M
 +branch+chain-spec = close μ-branch μ-chain (λ t. branch-lts.spec (chain-below t, chain.Post, byte.Asked, byte.Learnt) (branch-at t) branch.Post
     (λ c κs.
     let s = c .before .before in
-    (omega (arith, s .pre .0), (s .pre .1 .0, omega arith, chain-fits (s .pre .1 .0) (s .args .at) _ (s .pre .1 .1))))
+    (omega (arith, s .pre .0), (s .pre .1 .0, omega arith, chain-fits (s .pre .1 .0) (s .args .room .now) _ (s .pre .1 .1))))
     (λ c κs.
     let k1 = c .before .before .before in let s = k1 .before .before .before in
-    let k = written-length (k1 .chain .ensures) in
-    let f = five-fits (s .pre .1 .0) (s .args .at) _ (s .pre .1 .1) _ (k1 .chain .ensures .place) in
-    omega arith)
+    five-fits (s .pre .1 .0) (s .args .room .now) _ (s .pre .1 .1) (k1 .chain .ensures))
     (λ c. search needs)
     (λ c.
     let p = c .before .before in let k = p .before .before .before .before in
@@ -104,7 +101,6 @@ pub +branch+chain-spec : {M : Type 1} → statement M
     let (R, le, f) = s .pre .1 in
     let from-end = onward-reached R (s .args .room .now) le (p1 .put-sign .ensures) (p .put-label .ensures) in (
       omega arith,
-      rw (c .wide .ensures .0) (row-stop R),
       rw (c .wide .ensures .0) refl,
       rw (c .wide .ensures .0) (more-start R _ _ _ from-end (c .before .before .if1 .left)),
       onward-fits R
@@ -113,37 +109,31 @@ pub +branch+chain-spec : {M : Type 1} → statement M
     (λ c κs.
     let t = c .before in let h = t .before in
     let s = h .before .before .before .before .before .before .before .before .before .before .before .before .before .before in
-    let R = s .pre .1 .0 in
-    let (uc, few, es, O, f) = h .loop .inv in
-    let m : h .loop .c < s .args .u + getD (s .args .span .now) (s .args .u) 0 = omega (arith, t .loop-test .taken) in
-    let b = row-below R (h .loop .c) uc m in
-    (omega (arith, s .pre .0, b .1), (row-in R (h .loop .c) m, later-branch O uc (t .loop-test .taken) f)))
+    let (uc, es, O, f) = h .loop .inv in let m = t .loop-test .taken in
+    (omega (arith, s .pre .0, off-row O m .inside), (row-in (s .pre .1 .0) (h .loop .c) (omega arith), later-branch O uc m f)))
     (λ c κs.
     let b = c .before .before .before in let t = b .before .before in
-    let (uc, few, es, O, f) = t .before .loop .inv in later-joint O uc (t .loop-test .taken) f (b .branch .ensures))
-    (λ c. let t = c .before .before .before .before .before .before .before .before in omega (arith, t .before .loop .inv .1, t .loop-test .taken))
-    (λ c. let t = c .before .before .before .before .before .before .before .before in omega (arith, t .before .loop .inv .1, t .loop-test .taken))
+    let (uc, es, O, f) = t .before .loop .inv in later-joint O uc (t .loop-test .taken) f (b .branch .ensures))
+    (λ c. let t = c .before .before .before .before .before .before .before .before in omega (arith, t .before .loop .inv .2 .few, t .loop-test .taken))
+    (λ c. let t = c .before .before .before .before .before .before .before .before in omega (arith, t .before .loop .inv .2 .few, t .loop-test .taken))
     (λ c κs. search needs)
-    (λ c. let t = c .before .before .before .before .before .before .before .before .before .before in omega (arith, t .before .loop .inv .1, t .loop-test .taken, c .wide2 .ensures .1))
+    (λ c. let t = c .before .before .before .before .before .before .before .before .before .before in omega (arith, t .before .loop .inv .2 .few, t .loop-test .taken, c .wide2 .ensures .1))
     (λ c.
-    let t = c .before .before .before .before .before .before .before .before .before .before in let h = t .before in
-    let (uc, few, es, O, f) = h .loop .inv in
-    let s = h .before .before .before .before .before .before .before .before .before .before .before .before .before .before in
-    let b = row-below (s .pre .1 .0) (h .loop .c) uc (omega (arith, t .loop-test .taken)) in
-    omega (arith, b .0, c .wide2 .ensures .0, t .loop-test .taken))
+    let t = c .before .before .before .before .before .before .before .before .before .before in
+    omega (arith, off-row (t .before .loop .inv .2) (t .loop-test .taken) .some, c .wide2 .ensures .0, t .loop-test .taken))
     (λ c.
     let j = c .before .before .before .before in let b = j .before .before .before .before in let t = b .before .before in
-    let (uc, few, es, O, f) = t .before .loop .inv in
-    (omega arith, few, es, rw (c .wide2 .ensures .0) (later-next O uc (t .loop-test .taken) (b .branch .ensures) (j .join .ensures)), f))
+    let (uc, es, O, f) = t .before .loop .inv in
+    (omega arith, es, rw (c .wide2 .ensures .0) (later-next O uc (t .loop-test .taken) (b .branch .ensures) (j .join .ensures)), f))
     (λ c.
     let p = c .before .before .before .before .before .before .before .before in let p1 = p .before .before .before .before in
     let s = p1 .before .before .before in
     let (R, le, f) = s .pre .1 in
     written-length (chain-done R (s .args .room .now) le (p1 .put-sign .ensures) (p .put-label .ensures)
-    (left-end (off-end (c .before .loop .inv .3) (c .loop-test .left)))))
+    (left-end (off-end (c .before .loop .inv .2) (c .loop-test .left)))))
     (λ c.
     let p = c .before .before .before .before .before .before .before .before in let p1 = p .before .before .before .before in
     let s = p1 .before .before .before in
     let (R, le, f) = s .pre .1 in
     chain-done R (s .args .room .now) le (p1 .put-sign .ensures) (p .put-label .ensures) (left-end
-    (off-end (c .before .loop .inv .3) (c .loop-test .left))))
+    (off-end (c .before .loop .inv .2) (c .loop-test .left))))
