@@ -53,7 +53,8 @@ pub fn put_form(
         QueryRows (now code) (now mark) (now kids) (now span) (now up) n
         × (at + length (wordOf (normal (treeRows (now code) (now mark) (now span) n))) ≤ length (now room)) ⌝ }
     ensures { λ r. ⌜
-        Written (now (room .entry)) at (wordOf (normal (treeRows (now (code .entry)) (now (mark .entry)) (now (span .entry)) n))) (now (room .exit)) r ⌝ }
+        Written (now (room .entry)) at (wordOf (normal (treeRows (now (code .entry)) (now (mark .entry)) (now (span .entry)) n)))
+        (now (room .exit)) r ⌝ }
 {
     if n == 0 {
         return groups::put_byte(room, at, 0);
