@@ -6,6 +6,7 @@ use Prim.Native.Nat.{ℕ, zero, suc, _+_, _≤_, _<_}
 use native.Mathlib.Omega.{arith}
 use lib.ListN.{length, getD, length-append}
 use lib.Dec.{ltb}
+use Rattle.meaning.specs.Limits.{mostNodes}
 use Rattle.meaning.specs.Expression.{Expr, child, label}
 use Rattle.meaning.specs.TreeQuery.{Lab, any, lab}
 use Rattle.meaning.specs.Tree.{Forest, bare, tree, Tag}
@@ -42,14 +43,21 @@ unfolding labelAt
 label-some code u from at zero e z = absurd (z refl)
 label-some code u from at (suc l) e z = let q : 9 + l ≡ 8 + suc l = omega arith in rw (← e, ← q) (fill-one from at (label l))
 
--- row u: it opens, its children are counted
+-- row u: it is in the tables, it opens, its children are counted
+pub row-few : {code kids span : List ℕ} {u : ℕ} → Row code kids span u → u < mostNodes
+row-few R = omega (arith, R .within, R .rows .few)
+
 pub row-open : {code kids span : List ℕ} {u : ℕ} (R : Row code kids span u) → Opens span u (R .n)
 row-open {code} {kids} {span} {u} R = row-opens span (R .n) (R .rows .laid) u (R .within)
 
 pub row-width : {code kids span : List ℕ} {u : ℕ} (R : Row code kids span u) → getD kids u 0 ≡ width (below span u)
 row-width {code} {kids} {span} {u} R = row-kids code (R .mark) kids span (R .up) (R .n) (R .rows) u (R .within) .0
 
--- a later row of row u's part
+-- the rows of row u's part are in the tables
+pub row-stop : {code kids span : List ℕ} {u : ℕ} → Row code kids span u → u + getD span u 0 ≤ mostNodes
+row-stop R = omega (arith, row-open R .inside, R .rows .few)
+
+-- a later row of it
 pub row-in : {code kids span : List ℕ} {u : ℕ} → Row code kids span u → (c : ℕ) → c < u + getD span u 0 → Row code kids span c
 row-in R c l = let o = row-open R .inside in record { mark = R .mark; up = R .up; n = R .n; rows = R .rows; within = omega arith }
 
@@ -86,15 +94,24 @@ module _ (code span : List ℕ) (x y : ℕ) where
   pub record Off (c e : ℕ) (d₀ : List ℕ) (from at₀ : ℕ) (xs : List Expr) (d : List ℕ) (at : ℕ) : Type 0 where
     pub forest : Forest ℕ
     pub held : Holds span c e forest
+    pub few : e ≤ mostNodes
     pub left : Left d₀ from at₀ xs d at (off eitherIn (mapT (tagged code x y) forest) [])
 
 module _ {code span : List ℕ} {x y : ℕ} where
   pub off-start : {kids : List ℕ} {u : ℕ} {d₀ : List ℕ} {from at₀ : ℕ} {xs : List Expr} {d : List ℕ} {at : ℕ} → Row code kids span u
       → Left d₀ from at₀ xs d at (branchesAt code span x y u) → Off code span x y (u + 1) (u + getD span u 0) d₀ from at₀ xs d at
   unfolding under branchesAt
-  off-start {kids} {u} R w = let z : u + 1 ≡ suc u = omega arith in rw z (record { forest = below span u; held = row-open R .held; left = w })
+  off-start {kids} {u} R w = let z : u + 1 ≡ suc u = omega arith in rw z (record { forest = below span u; held = row-open R .held; few = row-stop R; left = w })
 
   module _ {c e : ℕ} {d₀ : List ℕ} {from at₀ : ℕ} {xs : List Expr} {d : List ℕ} {at : ℕ} (O : Off code span x y c e d₀ from at₀ xs d at) where
+    -- row c is the first of them
+    pub off-row : c < e → Opens span c e
+    off-row l = go (O .forest) (O .held)
+      where
+        go : (F : Forest ℕ) → Holds span c e F → Opens span c e
+        go bare h = absurd (omega arith)
+        go (tree i k r) h = holds-first span c e i k r h .1
+
     pub off-fits : c < e → at₀ + length (fill from at₀ xs) ≤ length d₀ → at + length (fill from at (offAt code span x y c)) ≤ length d
     off-fits l = go (O .forest) (O .held) (O .left)
       where
@@ -114,6 +131,7 @@ module _ {code span : List ℕ} {x y : ℕ} where
             record {
               forest = r;
               held = holds-first span c e i k r h .2;
+              few = O .few;
               left = left-step (offAt code span x y c) _ (left-is (off-first code span x y c e i k r h) w) v;
             }
 
@@ -221,12 +239,13 @@ module _ {code kids span : List ℕ} {u : ℕ} (R : Row code kids span u) where
   unfolding chainAt
   branch-parts at = rw (fill-first at child (labelled (labOf (getD code u 0)) (onwardAt code span u)))
 
-  module _ (at n : ℕ) (l : at + length (wordOf (branch (chainAt code span u))) ≤ n) where
-    pub chain-fits : at + length (fill at at (chainAt code span u)) ≤ n
+  module _ (d : List ℕ) (at : ℕ) (l : at + length (wordOf (branch (chainAt code span u))) ≤ length d) where
+    pub chain-fits : at + length (fill at at (chainAt code span u)) ≤ length d
     chain-fits = omega (arith, ap length (branch-parts at), length-append (fill at at (chainAt code span u)) (5 ∷ []))
 
-    pub five-fits : (a : ℕ) → a ≡ at + length (fill at at (chainAt code span u)) → a < n
-    five-fits a e = omega (arith, ap length (branch-parts at), length-append (fill at at (chainAt code span u)) (5 ∷ []))
+    pub five-fits : {d₁ : List ℕ} {a : ℕ} → Written d at (fill at at (chainAt code span u)) d₁ a → a < length d₁
+    five-fits v =
+        omega (arith, v .place, written-length v, ap length (branch-parts at), length-append (fill at at (chainAt code span u)) (5 ∷ []))
 
   pub branch-done : {d d₁ d₂ : List ℕ} {at a r : ℕ} → Written d at (fill at at (chainAt code span u)) d₁ a → Written d₁ a (5 ∷ []) d₂ r
       → Written d at (wordOf (branch (chainAt code span u))) d₂ r

@@ -3,13 +3,16 @@
 ghost use Prim.Native.Nat.{suc, _+_, _<_, _≤_};
 ghost use lib.ListN.{length, getD};
 ghost use lib.Dec.{ltb};
+ghost use Rattle.meaning.specs.Limits.{mostNodes};
 ghost use Rattle.meaning.specs.Number.{num, largestLabel};
 ghost use Rattle.meaning.specs.Normal.{branch as branchOf, wordOf};
 ghost use Rattle.groups.specs.Put.{Written};
 ghost use Rattle.branches.specs.Joining.{joint, factor, fill};
 ghost use Rattle.branches.specs.Factors.{Row, labelAt, chainAt, offAt, ownAt};
+use rows::Codes;
+use rows::Links;
 use rows::holds;
-use rows::link;
+use rows::wide;
 
 // The factor that went to place `at` and ends at place `end` is joined to what stands before it.
 pub fn join(room: &mut [u8], from: usize, at: usize, end: usize) -> usize
@@ -32,8 +35,8 @@ pub fn put_sign(room: &mut [u8], from: usize, at: usize, sign: u32) -> usize
 }
 
 // "its label, if any": code L + 1 is the sign 9 + L
-fn put_label(code: &[u32], u: usize, room: &mut [u8], from: usize, at: usize) -> usize
-    requires { ⌜ (u < length (now code)) × (getD (now code) u 0 ≤ suc largestLabel)
+fn put_label(code: &Codes, u: usize, room: &mut [u8], from: usize, at: usize) -> usize
+    requires { ⌜ (u < mostNodes) × (getD (now code) u 0 ≤ suc largestLabel)
         × (at + length (fill from at (labelAt (now code) u)) ≤ length (now room)) ⌝ }
     ensures { λ r. ⌜ Written (now (room .entry)) at (fill from at (labelAt (now (code .entry)) u)) (now (room .exit)) r ⌝ }
 {
@@ -45,7 +48,7 @@ fn put_label(code: &[u32], u: usize, room: &mut [u8], from: usize, at: usize) ->
 }
 
 // "A branch is written as a chain", under one first projection.
-fn branch(code: &[u32], kids: &[u16], span: &[u16], u: usize, room: &mut [u8], at: usize) -> usize
+fn branch(code: &Codes, kids: &Links, span: &Links, u: usize, room: &mut [u8], at: usize) -> usize
     requires { ⌜ Row (now code) (now kids) (now span) u × (at + length (wordOf (branchOf (chainAt (now code) (now span) u))) ≤ length (now room)) ⌝ }
     ensures { λ r. ⌜ Written (now (room .entry)) at (wordOf (branchOf (chainAt (now (code .entry)) (now (span .entry)) u))) (now (room .exit)) r ⌝ }
 {
@@ -55,9 +58,9 @@ fn branch(code: &[u32], kids: &[u16], span: &[u16], u: usize, room: &mut [u8], a
 
 // "Child, the node's label, and then, if it has exactly one child, the chain goes on with that child; if it has more, one first projection each."
 fn chain(
-    code: &[u32],
-    kids: &[u16],
-    span: &[u16],
+    code: &Codes,
+    kids: &Links,
+    span: &Links,
     u: usize,
     room: &mut [u8],
     from: usize,
@@ -72,22 +75,22 @@ fn chain(
     if kids[u] == 1 {
         return chain(code, kids, span, u + 1, room, from, end);
     }
-    let stop = u + link(span, u);
+    let stop = u + wide(span[u]);
     let mut c = u + 1;
     let mut place = end;
     while c < stop {
         let past = branch(code, kids, span, c, room, place);
         place = join(room, from, place, past);
-        c += link(span, c);
+        c += wide(span[c]);
     }
     place
 }
 
 // The first projection for row c, if it is off the ways to row x and to row y.
 fn put_off(
-    code: &[u32],
-    kids: &[u16],
-    span: &[u16],
+    code: &Codes,
+    kids: &Links,
+    span: &Links,
     c: usize,
     x: usize,
     y: usize,
@@ -110,9 +113,9 @@ fn put_off(
 
 // "A node's own factors are its label, if any, and then one first projection for each child off those ways", the ways to row x and to row y.
 pub fn own(
-    code: &[u32],
-    kids: &[u16],
-    span: &[u16],
+    code: &Codes,
+    kids: &Links,
+    span: &Links,
     u: usize,
     x: usize,
     y: usize,
@@ -125,11 +128,11 @@ pub fn own(
     ensures { λ r. ⌜ Written (now (room .entry)) at (fill from at (ownAt (now (code .entry)) (now (span .entry)) x y u)) (now (room .exit)) r ⌝ }
 {
     let mut place = put_label(code, u, room, from, at);
-    let stop = u + link(span, u);
+    let stop = u + wide(span[u]);
     let mut c = u + 1;
     while c < stop {
         place = put_off(code, kids, span, c, x, y, room, from, place);
-        c += link(span, c);
+        c += wide(span[c]);
     }
     place
 }

@@ -36,10 +36,10 @@ module _ {code mark kids span up : List ℕ} {n : ℕ} (Q : QueryRows code mark 
 
   -- some row is s, some row is d
   pub borne-src : Borne mark 0
-  borne-src = single-borne mark 0 src-row (Q .rows .marks)
+  borne-src = single-borne mark 0 src-row (Q .rows .few)
 
   pub borne-dst : Borne mark 1
-  borne-dst = single-borne mark 1 dst-row (Q .rows .marks)
+  borne-dst = single-borne mark 1 dst-row (Q .rows .few)
 
   pub src-in : {s : ℕ} → FirstRow mark 0 s → s < n
   src-in f = omega (arith, single-first mark 0 src-row f, src-row .inside)

@@ -1,4 +1,7 @@
 // The factors of a normal form in their order, and the form itself, written into the caller's room.
+use rows::Codes;
+use rows::Links;
+use rows::Marks;
 use ways::above;
 use ways::fall;
 use ways::lowest;
@@ -14,10 +17,10 @@ ghost use Rattle.normal.specs.Forms.{QueryRows, formAt};
 
 // "The factors, in order", joined from the left.
 fn factors(
-    code: &[u32],
-    kids: &[u16],
-    span: &[u16],
-    up: &[u16],
+    code: &Codes,
+    kids: &Links,
+    span: &Links,
+    up: &Links,
     s: usize,
     d: usize,
     t: usize,
@@ -39,18 +42,19 @@ fn factors(
 pub fn put_form(
     room: &mut [u8],
     at: usize,
-    code: &[u32],
-    mark: &[u8],
-    kids: &[u16],
-    span: &[u16],
-    up: &[u16],
+    code: &Codes,
+    mark: &Marks,
+    kids: &Links,
+    span: &Links,
+    up: &Links,
     n: usize,
 ) -> usize
     requires { ⌜
         QueryRows (now code) (now mark) (now kids) (now span) (now up) n
         × (at + length (wordOf (normal (treeRows (now code) (now mark) (now span) n))) ≤ length (now room)) ⌝ }
     ensures { λ r. ⌜
-        Written (now (room .entry)) at (wordOf (normal (treeRows (now (code .entry)) (now (mark .entry)) (now (span .entry)) n))) (now (room .exit)) r ⌝ }
+        Written (now (room .entry)) at (wordOf (normal (treeRows (now (code .entry)) (now (mark .entry)) (now (span .entry)) n)))
+        (now (room .exit)) r ⌝ }
 {
     if n == 0 {
         return groups::put_byte(room, at, 0);

@@ -1,4 +1,7 @@
 // The length of a normal form, counted row by row before the first byte is written.
+use rows::Codes;
+use rows::Links;
+use rows::Marks;
 use ways::lowest;
 ghost use mathlib.Core.Path.{_≡_};
 ghost use Prim.Native.Nat.{suc, _<_, _≤_};
@@ -23,8 +26,8 @@ fn label_weight(x: u32) -> usize
 }
 
 // Row c is on the way to s or to d.
-fn on_way(span: &[u16], s: usize, d: usize, c: usize) -> bool
-    requires { ⌜ (c < length (now span)) × (c < mostNodes) ⌝ }
+fn on_way(span: &Links, s: usize, d: usize, c: usize) -> bool
+    requires { ⌜ c < mostNodes ⌝ }
     ensures { λ r. ⌜ r ≡ onWay (now (span .entry)) s d c ⌝ }
 {
     if rows::holds(span, c, s) {
@@ -34,8 +37,8 @@ fn on_way(span: &[u16], s: usize, d: usize, c: usize) -> bool
 }
 
 // The children of row p that are off the ways are branches of their own.
-fn branches_at(kids: &[u16], span: &[u16], s: usize, d: usize, p: usize) -> bool
-    requires { ⌜ (p < length (now kids)) × (p < length (now span)) × (p < mostNodes) ⌝ }
+fn branches_at(kids: &Links, span: &Links, s: usize, d: usize, p: usize) -> bool
+    requires { ⌜ p < mostNodes ⌝ }
     ensures { λ r. ⌜ r ≡ branching (now (kids .entry)) (now (span .entry)) s d p ⌝ }
 {
     if on_way(span, s, d, p) {
@@ -46,10 +49,10 @@ fn branches_at(kids: &[u16], span: &[u16], s: usize, d: usize, p: usize) -> bool
 
 // What row u adds: its label, and, but for the top, its step and the projection of a branch.
 fn row_weight(
-    code: &[u32],
-    kids: &[u16],
-    span: &[u16],
-    up: &[u16],
+    code: &Codes,
+    kids: &Links,
+    span: &Links,
+    up: &Links,
     s: usize,
     d: usize,
     u: usize,
@@ -64,7 +67,7 @@ fn row_weight(
     if on_way(span, s, d, u) {
         return own + 2;
     }
-    if branches_at(kids, span, s, d, rows::link(up, u)) {
+    if branches_at(kids, span, s, d, rows::wide(up[u])) {
         return own + 3;
     }
     own + 2
@@ -72,10 +75,10 @@ fn row_weight(
 
 // What all rows add.
 fn rows_weight(
-    code: &[u32],
-    kids: &[u16],
-    span: &[u16],
-    up: &[u16],
+    code: &Codes,
+    kids: &Links,
+    span: &Links,
+    up: &Links,
     s: usize,
     d: usize,
     n: usize,
@@ -93,11 +96,11 @@ fn rows_weight(
 // The length of the normal form, counted row by row. The first factor is joined to nothing, which takes one sign away; if t is not the top, there is
 // one second projection, which puts it back.
 pub fn form_length(
-    code: &[u32],
-    mark: &[u8],
-    kids: &[u16],
-    span: &[u16],
-    up: &[u16],
+    code: &Codes,
+    mark: &Marks,
+    kids: &Links,
+    span: &Links,
+    up: &Links,
     n: usize,
 ) -> usize
     requires { ⌜ QueryRows (now code) (now mark) (now kids) (now span) (now up) n ⌝ }

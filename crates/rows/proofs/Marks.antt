@@ -6,9 +6,10 @@ use mathlib.Core.List.{List}
 use Prim.Native.Nat.{ℕ, zero, suc, _+_, _≤_, _<_}
 use native.Mathlib.Omega.{arith}
 use native.Mathlib.Decide.{ℕ-discrete, decLt}
-use lib.ListN.{length, getD}
+use lib.ListN.{getD}
 use lib.Dec.{eqb}
 use borrow.Author.Tests.{eq-eqb, ne-eqb, eqb-true}
+use Rattle.meaning.specs.Limits.{mostNodes}
 use Rattle.meaning.specs.Tree.{Forest, bare, tree, Tag, size}
 use Rattle.theory.proofs.Count.{bit, count}
 use Rattle.theory.proofs.Look.{never}
@@ -20,10 +21,10 @@ use Rattle.rows.proofs.Rows.{size-holds}
 abbrev pub Passed : List ℕ → ℕ → ℕ → Type 0
 Passed mark bit u = (j : ℕ) → j < u → bitOf (getD mark j 0) bit ≡ false
 
-pub not-passed : (mark : List ℕ) (bit u : ℕ) → Borne mark bit → Passed mark bit u → u < length mark
+pub not-passed : (mark : List ℕ) (bit u : ℕ) → Borne mark bit → Passed mark bit u → u < mostNodes
 not-passed mark bit u (k, l, b) f = go (decLt k u)
   where
-    go : Dec (k < u) → u < length mark
+    go : Dec (k < u) → u < mostNodes
     go (yes d) = never (cc (sym b ∙ f k d))
     go (no d) = omega arith
 
@@ -106,7 +107,7 @@ module _ {p : ℕ → Bool} {n : ℕ} (S : Single p n) where
 
 -- the one row that bears a mark can be searched for, and the first that is found is it
 module _ (mark : List ℕ) (bit : ℕ) {n : ℕ} (S : Single (λ u. bitOf (getD mark u 0) bit) n) where
-  pub single-borne : n ≤ length mark → Borne mark bit
+  pub single-borne : n ≤ mostNodes → Borne mark bit
   single-borne l = (S .row, omega (arith, S .inside), single-here S)
 
   pub single-first : {r : ℕ} → FirstRow mark bit r → r ≡ S .row

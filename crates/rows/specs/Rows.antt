@@ -25,11 +25,11 @@ tagAt code mark u = record { lab = labOf (getD code u 0); src = bitOf (getD mark
 
 -- some row bears the mark of this bit
 abbrev pub Borne : List ℕ → ℕ → Type 0
-Borne mark bit = (u : ℕ) × (u < length mark) × (bitOf (getD mark u 0) bit ≡ true)
+Borne mark bit = (u : ℕ) × (u < mostNodes) × (bitOf (getD mark u 0) bit ≡ true)
 
 -- the first row that does
 pub record FirstRow (mark : List ℕ) (bit r : ℕ) : Type 0 where
-  pub inside : r < length mark
+  pub inside : r < mostNodes
   pub here : bitOf (getD mark r 0) bit ≡ true
   pub before : (u : ℕ) → u < r → bitOf (getD mark u 0) bit ≡ false
 

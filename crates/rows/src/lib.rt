@@ -62,18 +62,18 @@ pub fn set_link(t: &mut [u16], i: usize, v: usize)
 }
 
 // Row x lies at or below row c.
-pub fn holds(span: &[u16], c: usize, x: usize) -> bool
-    requires { ⌜ (c < length (now span)) × (c < mostNodes) ⌝ }
+pub fn holds(span: &Links, c: usize, x: usize) -> bool
+    requires { ⌜ c < mostNodes ⌝ }
     ensures { λ r. ⌜ r ≡ covers (now (span .entry)) c x ⌝ }
 {
     if x < c {
         return false;
     }
-    x < c + link(span, c)
+    x < c + wide(span[c])
 }
 
 // The first row that bears the mark: bit S or bit D.
-pub fn row_of(mark: &[u8], bit: usize) -> usize
+pub fn row_of(mark: &Marks, bit: usize) -> usize
     requires { ⌜ (bit < 8) × Borne (now mark) bit ⌝ }
     ensures { λ r. ⌜ FirstRow (now (mark .entry)) bit r ⌝ }
 {

@@ -6,7 +6,7 @@ use mathlib.Core.List.{List}
 use Prim.Native.Nat.{ℕ, suc, _+_, _≤_, _<_}
 use native.Mathlib.Decide.{ℕ-discrete}
 use native.Mathlib.Omega.{arith}
-use lib.ListN.{length, getD}
+use lib.ListN.{getD}
 use Rattle.meaning.specs.Limits.{mostNodes}
 use Rattle.meaning.specs.Tree.{Forest, bare, tree}
 use Rattle.theory.proofs.Look.{never}
@@ -23,14 +23,15 @@ pub record Children (span : List ℕ) (u x c : ℕ) : Type 0 where
   pub held : Holds span c (u + getD span u 0) forest
   pub inside : (y : ℕ) → Among y forest → Among y (below span u)
   pub low : c ≤ x
+  pub few : x < mostNodes
 
 part-open : {span : List ℕ} {u : ℕ} (P : Part span u) → Opens span u (P .n)
 part-open {span} {u} P = row-opens span (P .n) (P .laid) u (P .within)
 
-pub children-start : {span : List ℕ} {u x : ℕ} → Part span u → u < x → Children span u x (u + 1)
-children-start {span} {u} P l =
-    let z : u + 1 ≡ suc u = omega arith in
-    rw z (record { forest = below span u; held = part-open P .held; inside = λ y a. a; low = omega arith })
+pub children-start : {span : List ℕ} {u x : ℕ} → Part span u → u < x → Covers span u x → Children span u x (u + 1)
+children-start {span} {u} P l v =
+    let z : u + 1 ≡ suc u = omega arith in let o = part-open P in
+    rw z (record { forest = below span u; held = o .held; inside = λ y a. a; low = omega arith; few = omega (arith, v .to, o .inside, P .few) })
 
 -- row c is the first of them
 pub record Child (span : List ℕ) (u x c : ℕ) : Type 0 where
@@ -50,11 +51,8 @@ children-here {span} {u} {x} {c} A l = go (A .forest) (A .held) (A .inside)
           among = i c (inl (h .0));
           some = z .1 .some;
           ends = z .1 .inside;
-          further = λ m. record { forest = r; held = z .2; inside = λ y a. i y (inr a); low = m };
+          further = λ m. record { forest = r; held = z .2; inside = λ y a. i y (inr a); low = m; few = A .few };
         }
-
-pub part-bound : {span : List ℕ} {u : ℕ} (P : Part span u) → (u + getD span u 0 ≤ length span) × (u + getD span u 0 ≤ mostNodes)
-part-bound P = let o = part-open P .inside in (omega (arith, P .spans), omega (arith, P .few))
 
 -- ------------------------------------------------------------------ the parent
 module _ {code mark kids span up : List ℕ} {n : ℕ} (R : Rows code mark kids span up n) where
@@ -81,17 +79,15 @@ module _ {code mark kids span up : List ℕ} {n : ℕ} (R : Rows code mark kids 
 -- ------------------------------------------------------------------ the lowest row
 -- row t is above or at s, and the lowest row that holds s and d is not below it
 pub record Above-s (span : List ℕ) (s d t : ℕ) : Type 0 where
+  pub few : t < mostNodes
   pub to-s : Covers span t s
   pub least : (v : ℕ) → Covers span v s → Covers span v d → v ≤ t
 
 module _ {span up : List ℕ} {s d : ℕ} (P : Pair span up s d) where
   pub lowest-start : Above-s span s d s
-  lowest-start = record { to-s = covers-self (P .rows) s (P .s-in); least = λ v a b. a .from }
+  lowest-start = record { few = omega (arith, P .s-in, P .rows .few); to-s = covers-self (P .rows) s (P .s-in); least = λ v a b. a .from }
 
   module _ {t : ℕ} (A : Above-s span s d t) where
-    pub lowest-bound : t < P .n
-    lowest-bound = omega (arith, A .to-s .from, P .s-in)
-
     pub lowest-done : covers span t d ≡ true → Lowest span s d t
     lowest-done e = record { to-s = A .to-s; to-d = covers-true span t d e; least = A .least }
 
@@ -112,6 +108,7 @@ module _ {span up : List ℕ} {s d : ℕ} (P : Pair span up s d) where
       pub lowest-next : Above-s span s d (getD up t 0)
       lowest-next =
           record {
+            few = omega (arith, lowest-less, A .few);
             to-s = parent-covers (P .rows) t s (P .s-in) (A .to-s) below-top;
             least = λ v a b. parent-least (P .rows) t s (P .s-in) (A .to-s) below-top v a (before v a b (ℕ-discrete v t));
           }

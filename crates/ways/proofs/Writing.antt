@@ -123,7 +123,7 @@ module _ {d₀ : List ℕ} {from at₀ : ℕ} {all-of : List Expr} {d : List ℕ
 -- a row on the way down, and its child
 module _ {code kids span : List ℕ} {u : ℕ} (R : Row code kids span u) where
   pub row-part : Part span u
-  row-part = record { n = R .n; laid = R .rows .laid; few = R .rows .few; spans = R .rows .spans; within = R .within }
+  row-part = record { n = R .n; laid = R .rows .laid; few = R .rows .few; within = R .within }
 
   row-reach : {x : ℕ} → Covers span u x → x < R .n
   row-reach w = omega (arith, w .to, row-open (R .rows) u (R .within) .inside)

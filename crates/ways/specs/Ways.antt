@@ -4,7 +4,7 @@ use mathlib.Core.Logic.{_⊎_}
 use mathlib.Core.Bool.{cond}
 use mathlib.Core.List.{List, [], _∷_, _++_}
 use Prim.Native.Nat.{ℕ, _+_, _≤_, _<_}
-use lib.ListN.{length, getD}
+use lib.ListN.{getD}
 use lib.Dec.{eqb}
 use Rattle.meaning.specs.Limits.{mostNodes}
 use Rattle.meaning.specs.Expression.{Expr, child}
@@ -24,7 +24,6 @@ pub record Part (span : List ℕ) (u : ℕ) : Type 0 where
   pub n : ℕ
   pub laid : Holds span 0 n (shape span n)
   pub few : n ≤ mostNodes
-  pub spans : n ≤ length span
   pub within : u < n
 
 -- rows s and d are two of some rows that are a tree

@@ -9,9 +9,12 @@ ghost use Rattle.groups.specs.Put.{Written};
 ghost use Rattle.branches.specs.Joining.{fill};
 ghost use Rattle.branches.specs.Factors.{Row};
 ghost use Rattle.ways.specs.Ways.{Covers, Part, Pair, Climb, Lowest, Among, upsAt, downsAt, wayAt};
+use rows::Codes;
+use rows::Links;
+use rows::wide;
 
 // "Let t be the lowest node above or at both s and d": up from s to the first row that holds d.
-pub fn lowest(span: &[u16], up: &[u16], s: usize, d: usize) -> usize
+pub fn lowest(span: &Links, up: &Links, s: usize, d: usize) -> usize
     requires { ⌜ Pair (now span) (now up) s d ⌝ }
     ensures { λ r. ⌜ Lowest (now (span .entry)) s d r ⌝ }
 {
@@ -20,18 +23,18 @@ pub fn lowest(span: &[u16], up: &[u16], s: usize, d: usize) -> usize
         if rows::holds(span, t, d) {
             return t;
         }
-        t = rows::link(up, t);
+        t = wide(up[t]);
     }
 }
 
 // The child of row u at or below which row x lies.
-fn child_to(span: &[u16], u: usize, x: usize) -> usize
+fn child_to(span: &Links, u: usize, x: usize) -> usize
     requires { ⌜ Part (now span) u × (u < x) × Covers (now span) u x ⌝ }
     ensures { λ r. ⌜ Among r (below (now (span .entry)) u) × Covers (now (span .entry)) r x ⌝ }
 {
     let mut c = u + 1;
     loop {
-        let next = c + rows::link(span, c);
+        let next = c + wide(span[c]);
         if x < next {
             return c;
         }
@@ -41,10 +44,10 @@ fn child_to(span: &[u16], u: usize, x: usize) -> usize
 
 // "For each node from s up to just below t, its own factors and then parent."
 pub fn rise(
-    code: &[u32],
-    kids: &[u16],
-    span: &[u16],
-    up: &[u16],
+    code: &Codes,
+    kids: &Links,
+    span: &Links,
+    up: &Links,
     s: usize,
     t: usize,
     room: &mut [u8],
@@ -60,13 +63,13 @@ pub fn rise(
     while x != t {
         let end = branches::own(code, kids, span, x, s, s, room, from, at);
         at = branches::put_sign(room, from, end, 3);
-        x = rows::link(up, x);
+        x = wide(up[x]);
     }
     at
 }
 
 // "The way from the top down to t (own factors of each node above t, each followed by child)."
-fn way(code: &[u32], kids: &[u16], span: &[u16], t: usize, room: &mut [u8], from: usize) -> usize
+fn way(code: &Codes, kids: &Links, span: &Links, t: usize, room: &mut [u8], from: usize) -> usize
     requires { ⌜ Row (now code) (now kids) (now span) t × (from + length (fill from from (wayAt (now code) (now span) t 0)) ≤ length (now room)) ⌝ }
     ensures { λ r. ⌜ Written (now (room .entry)) from (fill from from (wayAt (now (code .entry)) (now (span .entry)) t 0)) (now (room .exit)) r ⌝ }
 {
@@ -83,9 +86,9 @@ fn way(code: &[u32], kids: &[u16], span: &[u16], t: usize, room: &mut [u8], from
 
 // "If t is not the top, one second projection" of that way.
 pub fn above(
-    code: &[u32],
-    kids: &[u16],
-    span: &[u16],
+    code: &Codes,
+    kids: &Links,
+    span: &Links,
     t: usize,
     room: &mut [u8],
     from: usize,
@@ -107,9 +110,9 @@ pub fn above(
 
 // "For each node below t down to d, child and its own factors."
 pub fn fall(
-    code: &[u32],
-    kids: &[u16],
-    span: &[u16],
+    code: &Codes,
+    kids: &Links,
+    span: &Links,
     t: usize,
     d: usize,
     room: &mut [u8],

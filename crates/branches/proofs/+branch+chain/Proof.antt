@@ -7,7 +7,7 @@ use lib.ListN.{length, getD}
 use Rattle.branches.specs.Joining.{fill}
 use Rattle.branches.specs.Factors.{onwardAt}
 use Rattle.branches.proofs.Joining.{written-length, left-end}
-use Rattle.branches.proofs.Chains.{row-open, row-in, row-below, row-one, Off, off-end, onward-one, more-start}
+use Rattle.branches.proofs.Chains.{row-few, row-in, row-below, row-one, Off, off-row, off-end, onward-one, more-start}
 use Rattle.branches.proofs.Chains.{child-fits, label-fits, onward-reached, onward-fits, chain-done, chain-on}
 use Rattle.branches.proofs.Chains.{chain-fits, five-fits, branch-done, later-branch, later-joint, later-next}
 use Prim.Native.Nat.{ℕ, _<_}
@@ -22,7 +22,7 @@ use Rattle.branches.proofs.+branch+chain.Lts-chain as chain-lts
 use Rattle.branches.proofs.join.Reads as join
 use Rattle.branches.proofs.put_label.Reads as label
 use Rattle.branches.proofs.put_sign.Reads as sign
-use Rattle.rows.proofs.link.Reads as link
+use Rattle.rows.proofs.wide.Reads as wide
 use Rattle.groups.proofs.put_byte.Reads as byte
 use Rattle.branches.proofs.+branch+chain.{statement}
 use Rattle.branches.proofs.+branch+chain.Tie.{close}
@@ -56,42 +56,27 @@ chain-μ-loop code kids span u room₀ from at below end stop c₀ place₀ room
 pub +branch+chain-spec : {M : Type 1} → statement M
 +branch+chain-spec = close μ-branch μ-chain (λ t. branch-lts.spec (chain-below t, chain.Post, byte.Asked, byte.Learnt) (branch-at t) branch.Post
     (λ c κs.
-    let s = c .before .before .before .before .before in
-    (omega (arith, s .pre .0), (s .pre .1 .0, omega arith, chain-fits (s .pre .1 .0) (s .args .at) _ (s .pre .1 .1))))
+    let s = c .before .before in
+    (omega (arith, s .pre .0), (s .pre .1 .0, omega arith, chain-fits (s .pre .1 .0) (s .args .room .now) _ (s .pre .1 .1))))
     (λ c κs.
-    let k1 = c .before .before .before in let s = k1 .before .before .before .before .before .before in
-    let k = written-length (k1 .chain .ensures) in
-    let f = five-fits (s .pre .1 .0) (s .args .at) _ (s .pre .1 .1) _ (k1 .chain .ensures .place) in
-    omega arith)
+    let k1 = c .before .before .before in let s = k1 .before .before .before in
+    five-fits (s .pre .1 .0) (s .args .room .now) _ (s .pre .1 .1) (k1 .chain .ensures))
     (λ c. search needs)
     (λ c.
     let p = c .before .before in let k = p .before .before .before .before in
-    branch-done (k .before .before .before .before .before .before .pre .1 .0) (k .chain .ensures) (record { place = p .put-byte .ensures .0; bytes = p .put-byte .ensures .1 })))
-    λ t. chain-lts.spec (sign.Asked, sign.Learnt, label.Asked, label.Learnt, chain-below t, chain.Post, link.Asked, link.Learnt, branch-below t, branch.Post, join.Asked, join.Learnt) (chain-at t) chain.Post chain-Inv-loop chain-μ-loop
-    (λ c κs. let s = c .before .before .before .before .before in child-fits (s .pre .1 .0) (s .args .room .now) (s .pre .1 .1) (s .pre .1 .2))
+    branch-done (k .before .before .before .pre .1 .0) (k .chain .ensures) (record { place = p .put-byte .ensures .0; bytes = p .put-byte .ensures .1 })))
+    λ t. chain-lts.spec (sign.Asked, sign.Learnt, label.Asked, label.Learnt, chain-below t, chain.Post, wide.Asked, wide.Learnt, branch-below t, branch.Post, join.Asked, join.Learnt) (chain-at t) chain.Post chain-Inv-loop chain-μ-loop
+    (λ c κs. let s = c .before .before in child-fits (s .pre .1 .0) (s .args .room .now) (s .pre .1 .1) (s .pre .1 .2))
     (λ c κs.
-    let p = c .before .before .before in let s = p .before .before .before .before .before .before in
+    let p = c .before .before .before in let s = p .before .before .before in
     let (R, le, f) = s .pre .1 in
-    (omega (arith, R .within, R .rows .codes), R .rows .labels (s .args .u) (R .within), label-fits R (s .args .room .now) le (p .put-sign .ensures) f))
-    (λ c.
-    let R = c .before .before .before .before .before .before .before .before .before .before .before .before .pre .1 .0 in
-    let w = R .within in
-    let f = R .rows .few in
-    let k = R .rows .counts in
-    search needs)
-    (λ c.
-    let R = c .before .before .before .before .before .before .before .before .before .before .before .before .before .pre .1 .0 in
-    let w = R .within in
-    let k = R .rows .counts in
-    search needs)
-    (λ c.
-    let R = c .before .before .before .before .before .before .before .before .before .before .before .before .before .before .pre .1 .0 in
-    let w = R .within in
-    let f = R .rows .few in
-    omega arith)
+    (row-few R, R .rows .labels (s .args .u) (R .within), label-fits R (s .args .room .now) le (p .put-sign .ensures) f))
+    (λ c. omega (arith, row-few (c .before .before .before .before .before .before .before .before .before .pre .1 .0)))
+    (λ c. row-few (c .before .before .before .before .before .before .before .before .before .pre .1 .0))
+    (λ c. omega (arith, row-few (c .before .before .before .before .before .before .before .before .before .before .before .pre .1 .0)))
     (λ c κs.
     let i = c .before in let p = i .before .before .before .before in let p1 = p .before .before .before .before in
-    let s = p1 .before .before .before .before .before .before in
+    let s = p1 .before .before .before in
     let (R, le, f) = s .pre .1 in
     let m = row-one R (i .if1 .taken) in
     let b = row-below R (s .args .u + 1) (omega arith) m in
@@ -102,74 +87,53 @@ pub +branch+chain-spec : {M : Type 1} → statement M
     (λ c. search needs)
     (λ c.
     let k = c .before .before in let i = k .before .before in let p = i .before .before .before .before in
-    let p1 = p .before .before .before .before in let s = p1 .before .before .before .before .before .before in
+    let p1 = p .before .before .before .before in let s = p1 .before .before .before in
     let (R, le, f) = s .pre .1 in
     chain-on R (s .args .room .now) le (p1 .put-sign .ensures) (p .put-label .ensures) (i .if1 .taken) (k .chain .ensures))
-    (λ c κs.
-    let R = c .before .before .before .before .before .before .before .before .before .before .before .before .before .before .pre .1 .0 in
-    omega (arith, R .within, R .rows .spans))
+    (λ c. omega (arith, row-few (c .before .before .before .before .before .before .before .before .before .before .before .pre .1 .0)))
+    (λ c. row-few (c .before .before .before .before .before .before .before .before .before .before .before .pre .1 .0))
+    (λ c κs. search needs)
+    (λ c. omega (arith, row-few (c .before .before .before .before .before .before .before .before .before .before .before .before .before .pre .1 .0), c .wide .ensures .1))
+    (λ c. omega (arith, row-few (c .before .before .before .before .before .before .before .before .before .before .before .before .before .pre .1 .0)))
     (λ c.
-    let R = c .before .before .before .before .before .before .before .before .before .before .before .before .before .before .before .pre .1 .0 in
-    let w = R .within in
-    let f = R .rows .few in
-    let z = c .link .ensures .1 in
-    omega arith)
-    (λ c.
-    let R = c .before .before .before .before .before .before .before .before .before .before .before .before .before .before .before .pre .1 .0 in
-    let w = R .within in
-    let f = R .rows .few in
-    omega arith)
-    (λ c.
-    let p = c .before .before .before .before .before in let p1 = p .before .before .before .before in
-    let s = p1 .before .before .before .before .before .before in
+    let p = c .before .before .before .before .before .before in let p1 = p .before .before .before .before in
+    let s = p1 .before .before .before in
     let (R, le, f) = s .pre .1 in
     let from-end = onward-reached R (s .args .room .now) le (p1 .put-sign .ensures) (p .put-label .ensures) in (
       omega arith,
-      rw (c .link .ensures .0) refl,
-      rw (c .link .ensures .0) (more-start R _ _ _ from-end (c .before .if1 .left)),
+      rw (c .wide .ensures .0) refl,
+      rw (c .wide .ensures .0) (more-start R _ _ _ from-end (c .before .before .if1 .left)),
       onward-fits R
           (s .args .room .now) le (p1 .put-sign .ensures) (p .put-label .ensures) f,
     ))
     (λ c κs.
     let t = c .before in let h = t .before in
-    let s = h .before .before .before .before .before .before .before .before .before .before .before .before .before .before .before .before in
-    let R = s .pre .1 .0 in
-    let (uc, es, O, f) = h .loop .inv in
-    let m : h .loop .c < s .args .u + getD (s .args .span .now) (s .args .u) 0 = omega (arith, t .loop-test .taken) in
-    let b = row-below R (h .loop .c) uc m in
-    (omega (arith, s .pre .0, b .1), (row-in R (h .loop .c) m, later-branch O uc (t .loop-test .taken) f)))
+    let s = h .before .before .before .before .before .before .before .before .before .before .before .before .before .before in
+    let (uc, es, O, f) = h .loop .inv in let m = t .loop-test .taken in
+    (omega (arith, s .pre .0, off-row O m .inside), (row-in (s .pre .1 .0) (h .loop .c) (omega arith), later-branch O uc m f)))
     (λ c κs.
     let b = c .before .before .before in let t = b .before .before in
     let (uc, es, O, f) = t .before .loop .inv in later-joint O uc (t .loop-test .taken) f (b .branch .ensures))
-    (λ c κs.
-    let t = c .before .before .before .before .before .before .before .before in
-    let R = t .before .before .before .before .before .before .before .before .before .before .before .before .before .before .before .before .before .pre .1 .0 in
-    let o = row-open R .inside in
-    omega (arith, t .before .loop .inv .1, t .loop-test .taken, R .rows .spans))
+    (λ c. let t = c .before .before .before .before .before .before .before .before in omega (arith, t .before .loop .inv .2 .few, t .loop-test .taken))
+    (λ c. let t = c .before .before .before .before .before .before .before .before in omega (arith, t .before .loop .inv .2 .few, t .loop-test .taken))
+    (λ c κs. search needs)
+    (λ c. let t = c .before .before .before .before .before .before .before .before .before .before in omega (arith, t .before .loop .inv .2 .few, t .loop-test .taken, c .wide2 .ensures .1))
     (λ c.
-    let t = c .before .before .before .before .before .before .before .before .before in
-    let R = t .before .before .before .before .before .before .before .before .before .before .before .before .before .before .before .before .before .pre .1 .0 in
-    let o = row-open R .inside in
-    omega (arith, t .before .loop .inv .1, t .loop-test .taken, R .rows .few, c .link2 .ensures .1))
+    let t = c .before .before .before .before .before .before .before .before .before .before in
+    omega (arith, off-row (t .before .loop .inv .2) (t .loop-test .taken) .some, c .wide2 .ensures .0, t .loop-test .taken))
     (λ c.
-    let t = c .before .before .before .before .before .before .before .before .before in let h = t .before in
-    let (uc, es, O, f) = h .loop .inv in
-    let s = h .before .before .before .before .before .before .before .before .before .before .before .before .before .before .before .before in
-    let b = row-below (s .pre .1 .0) (h .loop .c) uc (omega (arith, t .loop-test .taken)) in
-    omega (arith, b .0, c .link2 .ensures .0, t .loop-test .taken))
-    (λ c.
-    let j = c .before .before .before in let b = j .before .before .before .before in let t = b .before .before in
+    let j = c .before .before .before .before in let b = j .before .before .before .before in let t = b .before .before in
     let (uc, es, O, f) = t .before .loop .inv in
-    (omega arith, es, rw (c .link2 .ensures .0) (later-next O uc (t .loop-test .taken) (b .branch .ensures) (j .join .ensures)), f))
+    (omega arith, es, rw (c .wide2 .ensures .0) (later-next O uc (t .loop-test .taken) (b .branch .ensures) (j .join .ensures)), f))
     (λ c.
-    let p = c .before .before .before .before .before .before .before in let p1 = p .before .before .before .before in
-    let s = p1 .before .before .before .before .before .before in
+    let p = c .before .before .before .before .before .before .before .before in let p1 = p .before .before .before .before in
+    let s = p1 .before .before .before in
     let (R, le, f) = s .pre .1 in
     written-length (chain-done R (s .args .room .now) le (p1 .put-sign .ensures) (p .put-label .ensures)
     (left-end (off-end (c .before .loop .inv .2) (c .loop-test .left)))))
     (λ c.
-    let p = c .before .before .before .before .before .before .before in let p1 = p .before .before .before .before in
-    let s = p1 .before .before .before .before .before .before in
+    let p = c .before .before .before .before .before .before .before .before in let p1 = p .before .before .before .before in
+    let s = p1 .before .before .before in
     let (R, le, f) = s .pre .1 in
     chain-done R (s .args .room .now) le (p1 .put-sign .ensures) (p .put-label .ensures) (left-end
     (off-end (c .before .loop .inv .2) (c .loop-test .left))))

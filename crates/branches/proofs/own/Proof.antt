@@ -2,11 +2,12 @@
 use Prim.Native.Nat.{_+_, _-_, _<_, _≤_}
 use mathlib.Core.Path.{_≡_, refl}
 use native.Mathlib.Omega.{arith}
+use borrow.Author.Needs.{needs}
 use lib.ListN.{length, getD}
 use Rattle.branches.specs.Joining.{fill}
 use Rattle.branches.specs.Factors.{branchesAt}
 use Rattle.branches.proofs.Joining.{written-length}
-use Rattle.branches.proofs.Chains.{row-open, row-in, row-below, Off, off-fits, off-next, own-label, own-start, own-rest, own-done}
+use Rattle.branches.proofs.Chains.{row-few, row-in, Off, off-row, off-fits, off-next, own-label, own-start, own-rest, own-done}
 use Rattle.branches.proofs.own.Statement.{statement}
 use Rattle.branches.proofs.own.Tie as tie
 
@@ -24,53 +25,44 @@ own-spec =
     (tie.spec
     Inv-loop μ-loop
     (λ c κs.
-    let s = c .before .before .before .before .before in
+    let s = c .before .before in
     let (R, le, f) = s .pre in
-    (omega (arith, R .within, R .rows .codes), R .rows .labels (s .args .u) (R .within), own-label R _ _ (s .args .room .now) le f))
-    (λ c κs. let R = c .before .before .before .before .before .before .before .before .pre .0 in omega (arith, R .within, R .rows .spans))
+    (row-few R, R .rows .labels (s .args .u) (R .within), own-label R _ _ (s .args .room .now) le f))
+    (λ c. omega (arith, row-few (c .before .before .before .before .before .pre .0)))
+    (λ c. row-few (c .before .before .before .before .before .pre .0))
+    (λ c κs. search needs)
+    (λ c. omega (arith, row-few (c .before .before .before .before .before .before .before .pre .0), c .wide .ensures .1))
+    (λ c. omega (arith, row-few (c .before .before .before .before .before .before .before .pre .0)))
     (λ c.
-    let R = c .before .before .before .before .before .before .before .before .before .pre .0 in
-    omega (arith, R .within, R .rows .few, c .link .ensures .1))
-    (λ c. let R = c .before .before .before .before .before .before .before .before .before .pre .0 in omega (arith, R .within, R .rows .few))
-    (λ c.
-    let p = c .before .before .before in let s = p .before .before .before .before .before .before in
+    let p = c .before .before .before .before in let s = p .before .before .before in
     let (R, le, f) = s .pre in (
       omega arith,
-      rw (c .link .ensures .0) refl,
-      rw (c .link .ensures .0)
+      rw (c .wide .ensures .0) refl,
+      rw (c .wide .ensures .0)
           (own-start R _ _ (s .args .room .now) le (p .put-label .ensures)),
       own-rest R _ _ (s .args .room .now) le (p .put-label .ensures) f,
     ))
     (λ c κs.
     let t = c .before in let h = t .before in
     let (uc, es, O, f) = h .loop .inv in
-    let s = h .before .before .before .before .before .before .before .before .before .before in
+    let s = h .before .before .before .before .before .before .before .before in
     (row-in (s .pre .0) (h .loop .c) (omega (arith, t .loop-test .taken)), off-fits O (t .loop-test .taken) f))
-    (λ c κs.
-    let t = c .before .before .before .before in
-    let R = t .before .before .before .before .before .before .before .before .before .before .before .pre .0 in
-    let o = row-open R .inside in
-    omega (arith, t .before .loop .inv .1, t .loop-test .taken, R .rows .spans))
+    (λ c. let t = c .before .before .before .before in omega (arith, t .before .loop .inv .2 .few, t .loop-test .taken))
+    (λ c. let t = c .before .before .before .before in omega (arith, t .before .loop .inv .2 .few, t .loop-test .taken))
+    (λ c κs. search needs)
+    (λ c. let t = c .before .before .before .before .before .before in omega (arith, t .before .loop .inv .2 .few, t .loop-test .taken, c .wide2 .ensures .1))
     (λ c.
-    let t = c .before .before .before .before .before in
-    let R = t .before .before .before .before .before .before .before .before .before .before .before .pre .0 in
-    let o = row-open R .inside in
-    omega (arith, t .before .loop .inv .1, t .loop-test .taken, R .rows .few, c .link2 .ensures .1))
+    let t = c .before .before .before .before .before .before in
+    omega (arith, off-row (t .before .loop .inv .2) (t .loop-test .taken) .some, c .wide2 .ensures .0, t .loop-test .taken))
     (λ c.
-    let t = c .before .before .before .before .before in let h = t .before in
-    let (uc, es, O, f) = h .loop .inv in
-    let b = row-below (h .before .before .before .before .before .before .before .before .before .before .pre .0) (h .loop .c) uc (omega
-    (arith, t .loop-test .taken)) in
-    omega (arith, b .0, c .link2 .ensures .0, t .loop-test .taken))
-    (λ c.
-    let p = c .before .before .before in let t = p .before .before in
+    let p = c .before .before .before .before in let t = p .before .before in
     let (uc, es, O, f) = t .before .loop .inv in
-    (omega arith, es, rw (c .link2 .ensures .0) (off-next O (t .loop-test .taken) (p .put-off .ensures)), f))
+    (omega arith, es, rw (c .wide2 .ensures .0) (off-next O (t .loop-test .taken) (p .put-off .ensures)), f))
     (λ c.
-    let p = c .before .before .before .before .before in let s = p .before .before .before .before .before .before in
+    let p = c .before .before .before .before .before .before in let s = p .before .before .before in
     let (R, le, f) = s .pre in
     written-length (own-done R _ _ (s .args .room .now) le (p .put-label .ensures) (c .before .loop .inv .2) (c .loop-test .left)))
     (λ c.
-    let p = c .before .before .before .before .before in let s = p .before .before .before .before .before .before in
+    let p = c .before .before .before .before .before .before in let s = p .before .before .before in
     let (R, le, f) = s .pre in
     own-done R _ _ (s .args .room .now) le (p .put-label .ensures) (c .before .loop .inv .2) (c .loop-test .left)))

@@ -12,9 +12,12 @@ pub put-label-spec : {M : Type 1} → statement M
 put-label-spec =
     tie.close
     (tie.spec
-    (λ c. search needs) (λ c. search needs) (λ c. written-is (sym (label-none _ _ _ _ (c .if1 .taken))) (written-nil _ _)) (λ c. search needs)
+    (λ c. search needs)
+    (λ c. search needs)
+    (λ c. written-is (sym (label-none _ _ _ _ (c .if1 .taken))) (written-nil _ _))
+    (λ c. search needs)
     (λ c κs.
-    let s = c .before .before .before .before .before in
+    let s = c .before .before .before .before in
     let e = label-some (s .args .code .now) (s .args .u) (s .args .from) (s .args .at) _ refl (c .before .if1 .left) in
     omega (arith, ap length e, s .pre .2))
     (λ c. search needs)

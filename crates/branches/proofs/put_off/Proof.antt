@@ -1,8 +1,7 @@
 -- Row c is on the way to x, or to y, or it is off both and its branch is written and joined.
 use mathlib.Core.Path.{sym, _∙_}
-use native.Mathlib.Omega.{arith}
 use Rattle.branches.proofs.Joining.{written-nil, written-is}
-use Rattle.branches.proofs.Chains.{off-first-way, off-second-way, branch-fits, joint-fits, off-done}
+use Rattle.branches.proofs.Chains.{row-few, off-first-way, off-second-way, branch-fits, joint-fits, off-done}
 use borrow.Author.Needs.{needs}
 use Rattle.branches.proofs.put_off.Statement.{statement}
 use Rattle.branches.proofs.put_off.Tie as tie
@@ -11,20 +10,18 @@ pub put-off-spec : {M : Type 1} → statement M
 put-off-spec =
     tie.close
     (tie.spec
-    (λ c κs. let R = c .before .before .before .before .pre .0 in (omega (arith, R .within, R .rows .spans), omega (arith, R .within, R .rows .few)))
+    (λ c κs. row-few (c .before .pre .0))
     (λ c. written-is (sym (off-first-way _ _ _ _ _ _ _ (sym (c .before .holds .ensures) ∙ c .if1 .taken))) (written-nil _ _))
-    (λ c κs.
-    let R = c .before .before .before .before .before .before .pre .0 in
-    (omega (arith, R .within, R .rows .spans), omega (arith, R .within, R .rows .few)))
+    (λ c κs. row-few (c .before .before .before .pre .0))
     (λ c. written-is (sym (off-second-way _ _ _ _ _ _ _ (sym (c .before .holds2 .ensures) ∙ c .if2 .taken))) (written-nil _ _))
     (λ c κs.
-    let h = c .before .before in let h1 = h .before .before in let s = h1 .before .before .before .before .before in
+    let h = c .before .before in let h1 = h .before .before in let s = h1 .before .before in
     let ex = sym (h1 .holds .ensures) ∙ h .before .if1 .left in
     let ey = sym (h .holds2 .ensures) ∙ c .before .if2 .left in
     (s .pre .0, branch-fits _ _ _ _ _ _ _ ex ey (s .args .room .now) (s .pre .1)))
     (λ c κs.
     let b = c .before .before .before in let i = b .before .before in let i1 = i .before .before in
-    let s = i1 .before .before .before .before .before .before in
+    let s = i1 .before .before .before in
     let ex = sym (i1 .before .holds .ensures) ∙ i1 .if1 .left in
     let ey = sym (i .before .holds2 .ensures) ∙ i .if2 .left in
     joint-fits (s .args .code .now) _ _ _ _ (s .args .from) (s .args .at) ex ey (s .args .room .now) (s .pre .1) (b .branch .ensures))

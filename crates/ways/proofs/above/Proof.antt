@@ -9,18 +9,18 @@ use Rattle.ways.proofs.above.Tie as tie
 
 returns : tie.Need-returns
 returns c =
-    let s = c .before .before .before .before .before in
+    let s = c .before .before in
     written-is (sym (above-none _ _ _ _ (s .args .t) (omega (arith, c .if1 .taken)))) (written-nil _ _)
 
 way-requires : tie.Need-way-requires
 way-requires c κs =
-    let s = c .before .before .before .before .before .before in
+    let s = c .before .before .before in
     (s .pre .0, way-fits _ _ _ _ (s .args .t) (λ z. omega (arith, c .before .if1 .left)) (s .args .room .now) (s .pre .1))
 
 put-byte-requires : tie.Need-put-byte-requires
 put-byte-requires c κs =
     let b = c .before .before .before in
-    let s = b .before .before .before .before .before .before .before in
+    let s = b .before .before .before .before in
     let if1 = b .before .before .if1 in
     let way = b .way in
     six-fits _ _ _ _ (s .args .t) (λ z. omega (arith, if1 .left)) (s .args .room .now) (s .pre .1) (way .ensures)
@@ -29,7 +29,7 @@ join-requires : tie.Need-join-requires
 join-requires c κs =
     let b = c .before .before .before in
     let b2 = b .before .before .before .before in
-    let s = b2 .before .before .before .before .before .before .before in
+    let s = b2 .before .before .before .before in
     let if1 = b2 .before .before .if1 in
     let way = b2 .way in
     let put-byte = b .put-byte in
@@ -41,7 +41,7 @@ returns-2 : tie.Need-returns-2
 returns-2 c =
     let b = c .before .before .before .before .before .before in
     let b2 = b .before .before .before .before in
-    let s = b2 .before .before .before .before .before .before .before in
+    let s = b2 .before .before .before .before in
     let if1 = b2 .before .before .if1 in
     let way = b2 .way in
     let put-byte = b .put-byte in

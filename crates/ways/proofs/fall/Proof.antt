@@ -23,7 +23,7 @@ abbrev μ-loop : tie.MeasureT-loop
 
 loop-holds : tie.Need-loop-holds Inv-loop μ-loop
 loop-holds c =
-    let s = c .before .before .before .before in
+    let s = c .before in
     (s .pre .0, s .pre .1, left-start _ _ _ _ _ refl (s .pre .2), s .pre .3)
 
 child-to-requires : tie.Need-child-to-requires Inv-loop μ-loop
@@ -32,7 +32,7 @@ child-to-requires c κs = let (R, v, L, f) = c .before .loop .inv in (row-part R
 put-sign-requires : tie.Need-put-sign-requires Inv-loop μ-loop
 put-sign-requires c κs =
     let l2 = c .before .before .before in
-    let s = l2 .before .before .before .before .before in
+    let s = l2 .before .before in
     let l = l2 .loop in
     let child-to = c .before .child-to in
     let (R, v, L, f) = l .inv in
@@ -44,7 +44,7 @@ own-requires : tie.Need-own-requires Inv-loop μ-loop
 own-requires c κs =
     let b = c .before .before .before in
     let b2 = b .before .before in
-    let s = b2 .before .before .before .before .before .before .before in
+    let s = b2 .before .before .before .before in
     let l = b2 .before .before .loop in
     let child-to = b2 .child-to in
     let put-sign = b .put-sign in
@@ -67,7 +67,7 @@ loop-again : tie.Need-loop-again Inv-loop μ-loop
 loop-again c =
     let b = c .before .before .before .before .before .before in
     let b2 = b .before .before in
-    let s = b2 .before .before .before .before .before .before .before in
+    let s = b2 .before .before .before .before in
     let l = b2 .before .before .loop in
     let child-to = b2 .child-to in
     let put-sign = b .put-sign in

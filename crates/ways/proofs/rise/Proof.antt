@@ -1,6 +1,7 @@
 -- The room has the factors of the way from s up to row x.
 use Prim.Native.Nat.{_≤_}
 use native.Mathlib.Omega.{arith}
+use borrow.Author.Needs.{needs}
 use Rattle.groups.specs.Put.{Written}
 use Rattle.branches.specs.Joining.{fill}
 use Rattle.branches.proofs.Joining.{written-length}
@@ -18,12 +19,12 @@ abbrev μ-loop : tie.MeasureT-loop
 
 loop-holds : tie.Need-loop-holds Inv-loop μ-loop
 loop-holds c =
-    let s = c .before .before .before .before .before in
+    let s = c .before in
     rise-start (s .pre .0) _ _
 
 own-requires : tie.Need-own-requires Inv-loop μ-loop
 own-requires c κs =
-    let s = c .before .before .before .before .before .before .before .before in
+    let s = c .before .before .before .before in
     let l = c .before .before .loop in
     let (tx, v, w) = l .inv in
     let ne = c .before .loop-test .taken in
@@ -33,35 +34,28 @@ put-sign-requires : tie.Need-put-sign-requires Inv-loop μ-loop
 put-sign-requires c κs =
     let b = c .before .before .before in
     let b2 = b .before .before in
-    let s = b2 .before .before .before .before .before .before .before in
+    let s = b2 .before .before .before in
     let l = b2 .before .loop in
     let test = b2 .loop-test in
     let own = b .own in
     let (tx, v, w) = l .inv in
     rise-parent (s .pre .0) (l .x) tx v (test .taken) _ w (s .pre .1) (own .ensures)
 
-link-requires : tie.Need-link-requires Inv-loop μ-loop
-link-requires c κs =
-    let l2 = c .before .before .before .before .before .before .before .before .before in
-    let s = l2 .before .before .before .before .before .before in
-    let l = l2 .loop in
-    let v = l .inv .1 in omega (arith, v .from, s .pre .0 .within, s .pre .0 .rows .ups)
-
 loop-less : tie.Need-loop-less Inv-loop μ-loop
 loop-less c =
-    let b = c .before .before .before .before .before .before .before .before .before in
-    let s = b .before .before .before .before .before .before .before in
+    let b = c .before .before .before .before .before .before .before .before .before .before in
+    let s = b .before .before .before in
     let l = b .before .loop in
     let test = b .loop-test in
     let (tx, v, w) = l .inv in
-    let l = rise-less (s .pre .0) (l .x) tx v (test .taken) in omega (arith, c .link .ensures .0)
+    let l = rise-less (s .pre .0) (l .x) tx v (test .taken) in omega (arith, c .wide .ensures .0)
 
 loop-again : tie.Need-loop-again Inv-loop μ-loop
 loop-again c =
-    let b = c .before .before .before in
+    let b = c .before .before .before .before in
     let b2 = b .before .before .before .before in
     let b3 = b2 .before .before in
-    let s = b3 .before .before .before .before .before .before .before in
+    let s = b3 .before .before .before in
     let l = b3 .before .loop in
     let test = b3 .loop-test in
     let own = b2 .own in
@@ -69,7 +63,7 @@ loop-again c =
     let (tx, v, w) = l .inv in
     let C = s .pre .0 in
     let ne = test .taken in
-    rw (c .link .ensures .0) (
+    rw (c .wide .ensures .0) (
       rise-from C (l .x) tx v ne,
       rise-covers C (l .x) tx v ne,
       rise-next C (l .x) tx v ne _ w (own .ensures) (put-sign .ensures),
@@ -84,4 +78,4 @@ returns c = rw (← c .loop-test .left) (c .before .loop .inv .2)
 pub rise-spec : {M : Type 1} → statement M
 rise-spec =
     tie.close
-    (tie.spec Inv-loop μ-loop loop-holds own-requires put-sign-requires link-requires loop-less loop-again same-length returns)
+    (tie.spec Inv-loop μ-loop loop-holds own-requires put-sign-requires (λ c. search needs) (λ c. search needs) (λ c κs. search needs) loop-less loop-again same-length returns)

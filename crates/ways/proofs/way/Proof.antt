@@ -23,7 +23,7 @@ abbrev μ-loop : tie.MeasureT-loop
 
 loop-holds : tie.Need-loop-holds Inv-loop μ-loop
 loop-holds c =
-    let s = c .before .before .before .before in
+    let s = c .before in
     (top-row (s .pre .0), top-covers (s .pre .0), left-start _ _ _ _ _ refl (omega arith), s .pre .1)
 
 child-to-requires : tie.Need-child-to-requires Inv-loop μ-loop
@@ -32,7 +32,7 @@ child-to-requires c κs = let (R, v, L, f) = c .before .loop .inv in (row-part R
 own-requires : tie.Need-own-requires Inv-loop μ-loop
 own-requires c κs =
     let b = c .before .before in
-    let s = b .before .before .before .before .before .before in
+    let s = b .before .before .before in
     let l = b .before .loop in
     let test = b .loop-test in
     let (R, v, L, f) = l .inv in
@@ -44,7 +44,7 @@ put-sign-requires : tie.Need-put-sign-requires Inv-loop μ-loop
 put-sign-requires c κs =
     let b = c .before .before .before in
     let b2 = b .before .before in
-    let s = b2 .before .before .before .before .before .before .before in
+    let s = b2 .before .before .before .before in
     let l = b2 .before .before .loop in
     let test = b2 .before .loop-test in
     let child-to = b2 .child-to in
@@ -67,7 +67,7 @@ loop-again : tie.Need-loop-again Inv-loop μ-loop
 loop-again c =
     let b = c .before .before .before .before .before .before in
     let b2 = b .before .before in
-    let s = b2 .before .before .before .before .before .before .before in
+    let s = b2 .before .before .before .before in
     let l = b2 .before .before .loop in
     let test = b2 .before .loop-test in
     let child-to = b2 .child-to in

@@ -7,13 +7,13 @@ use Rattle.normal.proofs.form.factors.Tie as tie
 
 rise-requires : tie.Need-rise-requires
 rise-requires c κs =
-    let s = c .before .before .before .before .before .before in
+    let s = c .before .before in
     (s .pre .0, ups-fits _ _ _ (s .args .d) _ _ (s .args .room .now) (s .pre .2))
 
 above-requires : tie.Need-above-requires
 above-requires c κs =
     let b = c .before .before .before in
-    let s = b .before .before .before .before .before .before .before in
+    let s = b .before .before .before in
     let rise = b .rise in
     let (C, v, f) = s .pre in
     (climb-row C (s .args .t) (C .covers), above-fits _ _ (s .args .s) (s .args .d) _ _ (s .args .room .now) f (rise .ensures))
@@ -22,7 +22,7 @@ own-requires : tie.Need-own-requires
 own-requires c κs =
     let b = c .before .before .before in
     let b2 = b .before .before .before .before in
-    let s = b2 .before .before .before .before .before .before .before in
+    let s = b2 .before .before .before in
     let rise = b2 .rise in
     let above = b .above in
     let (C, v, f) = s .pre in (
@@ -37,7 +37,7 @@ fall-requires c κs =
     let b = c .before .before .before in
     let b2 = b .before .before .before .before in
     let b3 = b2 .before .before .before .before in
-    let s = b3 .before .before .before .before .before .before .before in
+    let s = b3 .before .before .before in
     let rise = b3 .rise in
     let above = b2 .above in
     let own = b .own in
@@ -53,7 +53,7 @@ returns c =
     let b = c .before .before .before .before .before .before in
     let b2 = b .before .before .before .before in
     let b3 = b2 .before .before .before .before in
-    let s = b3 .before .before .before .before .before .before .before in
+    let s = b3 .before .before .before in
     let rise = b3 .rise in
     let above = b2 .above in
     let own = b .own in

@@ -12,31 +12,27 @@ use Rattle.normal.proofs.form.put_form.Tie as tie
 
 put-byte-requires : tie.Need-put-byte-requires
 put-byte-requires c κs =
-    let s = c .before .before .before .before .before .before .before .before in
+    let s = c .before .before .before in
     omega (arith, s .pre .1, ap length (form-empty (s .pre .0) (c .before .if1 .taken)))
 
 returns : tie.Need-returns
 returns c =
     let b = c .before .before in
-    let s = b .before .before .before .before .before .before .before .before .before in
+    let s = b .before .before .before .before in
     let if1 = b .before .before .if1 in
     let put-byte = b .put-byte in
     let e = form-empty (s .pre .0) (if1 .taken) in
     record { place = omega (arith, put-byte .ensures .0, ap length e); bytes = put-byte .ensures .1 ∙ ap (put _ _) (sym e) }
 
 row-of-requires : tie.Need-row-of-requires
-row-of-requires c κs =
-    let s = c .before .before .before .before .before .before .before in
-    (omega arith, borne-src (s .pre .0) (c .if1 .left))
+row-of-requires c κs = (omega arith, borne-src (c .before .before .pre .0) (c .if1 .left))
 
 row-of-requires-2 : tie.Need-row-of-requires-2
-row-of-requires-2 c κs =
-    let s = c .before .before .before .before .before .before .before .before in
-    (omega arith, borne-dst (s .pre .0) (c .before .if1 .left))
+row-of-requires-2 c κs = (omega arith, borne-dst (c .before .before .before .pre .0) (c .before .if1 .left))
 
 lowest-requires : tie.Need-lowest-requires
 lowest-requires c κs =
-    let s = c .before .before .before .before .before .before .before .before .before in
+    let s = c .before .before .before .before in
     let ne = c .before .before .if1 .left in
     record {
       code = s .args .code .now;
@@ -51,7 +47,7 @@ lowest-requires c κs =
 factors-requires : tie.Need-factors-requires
 factors-requires c κs =
     let b = c .before .before in
-    let s = b .before .before .before .before .before .before .before .before .before in
+    let s = b .before .before .before .before in
     let ne = b .before .before .if1 .left in
     let row-of = b .before .row-of in
     let row-of2 = b .row-of2 in
@@ -67,7 +63,7 @@ put-byte-requires-2 c κs =
     let b = c .before .before .before .before in
     let b2 = b .before .before in
     let b3 = b2 .before .before in
-    let s = b3 .before .before .before .before .before .before .before .before in
+    let s = b3 .before .before .before in
     let ne = b3 .before .if1 .left in
     let row-of = b3 .row-of in
     let row-of2 = b2 .before .row-of2 in
@@ -82,7 +78,7 @@ returns-2 c =
     let b2 = b .before .before .before .before .before in
     let b3 = b2 .before .before in
     let b4 = b3 .before .before in
-    let s = b4 .before .before .before .before .before .before .before .before in
+    let s = b4 .before .before .before in
     let ne = b4 .before .if1 .left in
     let row-of = b4 .row-of in
     let row-of2 = b3 .before .row-of2 in
@@ -102,7 +98,7 @@ returns-3 c =
     let b = c .before .before .before in
     let b2 = b .before .before in
     let b3 = b2 .before .before in
-    let s = b3 .before .before .before .before .before .before .before .before in
+    let s = b3 .before .before .before in
     let ne = b3 .before .if1 .left in
     let row-of = b3 .row-of in
     let row-of2 = b2 .before .row-of2 in

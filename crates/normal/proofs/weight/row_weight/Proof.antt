@@ -2,32 +2,19 @@
 use mathlib.Core.Path.{sym, ap, _∙_}
 use Prim.Native.Nat.{ℕ, _+_}
 use native.Mathlib.Omega.{arith}
+use borrow.Author.Needs.{needs}
 use Rattle.rows.proofs.Rows.{row-up}
 use Rattle.normal.proofs.Counting.{row-top, row-way, row-branch, row-chain}
 use Rattle.normal.proofs.weight.row_weight.Statement.{statement}
 use Rattle.normal.proofs.weight.row_weight.Tie as tie
 
-mul-label-weight : tie.Need-mul-label-weight
-mul-label-weight c = let s = c .before .before .before .before in omega (arith, s .pre .within, s .pre .rows .few)
-
-shared-slice-read-label-weight : tie.Need-shared-slice-read-label-weight
-shared-slice-read-label-weight c = let s = c .before .before .before .before .before in omega (arith, s .pre .within, s .pre .rows .codes)
-
 label-weight-requires : tie.Need-label-weight-requires
-label-weight-requires c κs = let s = c .before .before .before .before .before in s .pre .rows .labels _ (s .pre .within)
+label-weight-requires c κs = c .before .pre .rows .labels _ (c .before .pre .within)
 
 returns : tie.Need-returns
 returns c =
     let label = c .before .label-weight .ensures in
     (label .0 ∙ sym (row-top _ _ _ _ _ _ _ (c .if1 .taken)), omega (arith, label .1))
-
-on-way-requires : tie.Need-on-way-requires
-on-way-requires c κs =
-    let s = c .before .before .before .before .before .before .before in
-    (omega (arith, s .pre .within, s .pre .rows .spans), omega (arith, s .pre .within, s .pre .rows .few))
-
-add-result : tie.Need-add-result
-add-result c = omega (arith, c .before .before .before .label-weight .ensures .1)
 
 returns-2 : tie.Need-returns-2
 returns-2 c =
@@ -35,48 +22,37 @@ returns-2 c =
     let way = sym (c .before .on-way .ensures) ∙ c .if2 .taken in
     (ap (λ (m : ℕ). m + 2) (label .0) ∙ sym (row-way _ _ _ _ _ _ _ (c .before .before .if1 .left) way), omega (arith, label .1))
 
-link-requires : tie.Need-link-requires
-link-requires c κs =
-    let s = c .before .before .before .before .before .before .before .before .before in
-    omega (arith, s .pre .within, s .pre .rows .ups)
-
 branches-at-requires : tie.Need-branches-at-requires
 branches-at-requires c κs =
-    let b = c .before .before .before in
-    let s = b .before .before .before .before .before .before .before in
+    let b = c .before .before .before .before in
+    let s = b .before .before .before in
     let R = s .pre .rows in
     let up = row-up _ _ _ _ _ _ R (s .args .u) (omega (arith, b .if1 .left)) (s .pre .within) .0 in
-    let e = c .link .ensures .0 in
-    (omega (arith, s .pre .within, R .counts), omega (arith, s .pre .within, R .spans), omega (arith, s .pre .within, R .few))
-
-add-result-2 : tie.Need-add-result-2
-add-result-2 c = omega (arith, c .before .before .before .before .before .before .label-weight .ensures .1)
+    let e = c .wide .ensures .0 in
+    omega (arith, s .pre .within, R .few)
 
 returns-3 : tie.Need-returns-3
 returns-3 c =
     let b = c .before .before in
-    let b2 = b .before .before in
+    let b2 = b .before .before .before in
     let label = b2 .before .before .label-weight .ensures in
-    let off = sym (b2 .on-way .ensures) ∙ b .before .if2 .left in
+    let off = sym (b2 .on-way .ensures) ∙ b .before .before .if2 .left in
     let ne = b2 .before .if1 .left in
     let at = sym (c .before .branches-at .ensures) ∙ c .if3 .taken in
-    (ap (λ (m : ℕ). m + 3) (label .0) ∙ sym (row-branch _ _ _ _ _ _ _ ne off _ (b .link .ensures .0) at), omega (arith, label .1))
-
-add-result-3 : tie.Need-add-result-3
-add-result-3 c = omega (arith, c .before .before .before .before .before .before .label-weight .ensures .1)
+    (ap (λ (m : ℕ). m + 3) (label .0) ∙ sym (row-branch _ _ _ _ _ _ _ ne off _ (b .wide .ensures .0) at), omega (arith, label .1))
 
 returns-4 : tie.Need-returns-4
 returns-4 c =
     let b = c .before .before in
-    let b2 = b .before .before in
+    let b2 = b .before .before .before in
     let label = b2 .before .before .label-weight .ensures in
-    let off = sym (b2 .on-way .ensures) ∙ b .before .if2 .left in
+    let off = sym (b2 .on-way .ensures) ∙ b .before .before .if2 .left in
     let ne = b2 .before .if1 .left in
     let at = sym (c .before .branches-at .ensures) ∙ c .if3 .left in
-    (ap (λ (m : ℕ). m + 2) (label .0) ∙ sym (row-chain _ _ _ _ _ _ _ ne off _ (b .link .ensures .0) at), omega (arith, label .1))
+    (ap (λ (m : ℕ). m + 2) (label .0) ∙ sym (row-chain _ _ _ _ _ _ _ ne off _ (b .wide .ensures .0) at), omega (arith, label .1))
 
 pub row-weight-spec : {M : Type 1} → statement M
 row-weight-spec =
     tie.close
-    (tie.spec mul-label-weight shared-slice-read-label-weight label-weight-requires returns on-way-requires add-result returns-2
-    link-requires branches-at-requires add-result-2 returns-3 add-result-3 returns-4)
+    (tie.spec (λ c. search needs) (λ c. search needs) label-weight-requires returns (λ c κs. search needs) (λ c. search needs) returns-2
+    (λ c. search needs) (λ c. search needs) (λ c κs. search needs) branches-at-requires (λ c. search needs) returns-3 (λ c. search needs) returns-4)

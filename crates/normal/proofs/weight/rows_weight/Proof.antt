@@ -2,6 +2,7 @@
 use mathlib.Core.Path.{_≡_}
 use Prim.Native.Nat.{_+_, _-_, _*_, _≤_}
 use native.Mathlib.Omega.{arith}
+use borrow.Author.Needs.{needs}
 use Rattle.normal.specs.Weights.{rowsWeight}
 use Rattle.normal.proofs.Counting.{rows-next, rows-none}
 use Rattle.ways.proofs.Steps.{covers-self}
@@ -17,13 +18,13 @@ abbrev μ-loop : tie.MeasureT-loop
 
 loop-holds : tie.Need-loop-holds Inv-loop μ-loop
 loop-holds c =
-    let n = c .before .before .before .before .args .n in
+    let n = c .args .n in
     let z : n - 0 ≡ n = omega arith in
     (omega arith, omega arith, rw z (omega arith))
 
 row-weight-requires : tie.Need-row-weight-requires Inv-loop μ-loop
 row-weight-requires c κs =
-    let s = c .before .before .before .before .before .before in
+    let s = c .before .before in
     record {
       mark = s .pre .mark;
       n = s .args .n;
@@ -32,23 +33,9 @@ row-weight-requires c κs =
       covers = covers-self (s .pre .rows) (c .before .loop .u) (c .loop-test .taken);
     }
 
-add-weight : tie.Need-add-weight Inv-loop μ-loop
-add-weight c =
-    let s = c .before .before .before .before .before .before .before in
-    let (le, w, e) = c .before .before .loop .inv in
-    omega (arith, s .pre .rows .few, c .row-weight .ensures .1)
-
-add-u : tie.Need-add-u Inv-loop μ-loop
-add-u c =
-    let s = c .before .before .before .before .before .before .before in
-    omega (arith, s .pre .rows .few, c .before .loop-test .taken)
-
-loop-less : tie.Need-loop-less Inv-loop μ-loop
-loop-less c = omega (arith, c .before .loop-test .taken)
-
 loop-again : tie.Need-loop-again Inv-loop μ-loop
 loop-again c =
-    let a = c .before .before .before .before .before .before .before .args in
+    let a = c .before .before .before .args in
     let l = c .before .before .loop in
     let t = c .before .loop-test .taken in
     let r = c .row-weight .ensures in
@@ -60,7 +47,7 @@ loop-again c =
 
 returns : tie.Need-returns Inv-loop μ-loop
 returns c =
-    let a = c .before .before .before .before .before .before .args in
+    let a = c .before .before .args in
     let l = c .before .loop in
     let (le, w, e) = l .inv in
     omega (arith, rows-none (a .code .now) (a .kids .now) (a .span .now) (a .up .now) (a .s) (a .d) (a .n) (l .u) (c .loop-test .left))
@@ -68,4 +55,4 @@ returns c =
 pub rows-weight-spec : {M : Type 1} → statement M
 rows-weight-spec =
     tie.close
-    (tie.spec Inv-loop μ-loop loop-holds row-weight-requires add-weight add-u loop-less loop-again returns)
+    (tie.spec Inv-loop μ-loop loop-holds row-weight-requires (λ c. search needs) (λ c. search needs) (λ c. search needs) loop-again returns)
