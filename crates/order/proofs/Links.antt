@@ -11,8 +11,8 @@ use lib.Dec.{ltb}
 use borrow.Author.Tests.{lt-ltb, le-ltb, ltb-true}
 use Rattle.meaning.specs.Tree.{Forest, bare, tree, size}
 use Rattle.rows.specs.Rows.{noRow}
-use Rattle.order.specs.declared.brothers.Order.{Order}
-use Rattle.order.specs.declared.brothers.Order.the-variants.{Before, Same, After}
+use Rattle.order.specs.declared.sorting.Order.{Order}
+use Rattle.order.specs.declared.sorting.Order.the-variants.{Before, Same, After}
 use Rattle.order.specs.Links.{slotOf, Known, forestFrom, forestAt, Linked, height, Finite, thenBy, cmpN, cmpF, comparedAt, upTo, goesFirst, spotOf}
 use Rattle.order.proofs.Comparing.{cmp-lt, cmp-gt, cmp-eq}
 

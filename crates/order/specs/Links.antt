@@ -11,8 +11,8 @@ use lib.Dec.{ltb}
 use Rattle.meaning.specs.Limits.{mostNodes}
 use Rattle.meaning.specs.Tree.{Forest, bare, tree, size}
 use Rattle.rows.specs.Rows.{width, noRow}
-use Rattle.order.specs.declared.brothers.Order.{Order}
-use Rattle.order.specs.declared.brothers.Order.the-variants.{Before, Same, After}
+use Rattle.order.specs.declared.sorting.Order.{Order}
+use Rattle.order.specs.declared.sorting.Order.the-variants.{Before, Same, After}
 
 -- where the list of p's children starts
 abbrev pub slotOf : ℕ → ℕ → ℕ

@@ -2,10 +2,10 @@
 // The children of each row become a list, which is in order from the start; then the tree is laid out as rows.
 mod children; // children.rt: the children of each row, as lists
 mod key; // key.rt: one number for the head of a record
-mod brothers; // brothers.rt: comparing two brothers, and putting all in order
+mod sorting; // sorting.rt: comparing two brothers, and putting all in order
 mod laying; // laying.rt: lists laid out as rows
 
-use crate::brothers::sort_rows;
+use crate::sorting::sort_rows;
 use crate::children::gather;
 use crate::laying::lay;
 ghost use mathlib.Core.Path.{_≡_};

@@ -4,7 +4,7 @@ use Rattle.order.proofs.image_rows.Statement.{statement}
 use Rattle.order.proofs.image_rows.Tie as tie
 use Rattle.order.proofs.image_rows.Reads as reads
 use Rattle.order.proofs.image_rows.Lts as lts
-use Rattle.order.proofs.brothers.sort_rows.Reads as sort-rows-reads
+use Rattle.order.proofs.sorting.sort_rows.Reads as sort-rows-reads
 use Rattle.order.proofs.laying.lay.Reads as lay-reads
 
 sort-rows-requires : tie.Need-sort-rows-requires

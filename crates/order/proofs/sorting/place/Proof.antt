@@ -2,11 +2,11 @@ use borrow.Author.Needs.{needs}
 use native.Mathlib.Omega.{arith}
 use lib.ListN.{getD, length-set}
 use Rattle.order.proofs.Inserting.{placed-front, placed-after}
-use Rattle.order.proofs.brothers.place.Statement.{statement}
-use Rattle.order.proofs.brothers.place.Tie as tie
-use Rattle.order.proofs.brothers.place.Reads as reads
-use Rattle.order.proofs.brothers.place.Lts as lts
-use Rattle.order.proofs.brothers.spot.Reads as spot-reads
+use Rattle.order.proofs.sorting.place.Statement.{statement}
+use Rattle.order.proofs.sorting.place.Tie as tie
+use Rattle.order.proofs.sorting.place.Reads as reads
+use Rattle.order.proofs.sorting.place.Lts as lts
+use Rattle.order.proofs.sorting.spot.Reads as spot-reads
 
 returns : tie.Need-returns
 returns c = let p = c .before in placed-front (p .before .before .before .before .before .pre) (p .spot .ensures) (c .if1 .taken)

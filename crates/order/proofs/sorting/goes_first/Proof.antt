@@ -1,11 +1,11 @@
 use borrow.Author.Needs.{needs}
 use Rattle.order.proofs.Links.{first-less, first-more, first-kids}
 use borrow.Author.Needs.{needs}
-use Rattle.order.proofs.brothers.goes_first.Statement.{statement}
-use Rattle.order.proofs.brothers.goes_first.Tie as tie
-use Rattle.order.proofs.brothers.goes_first.Reads as reads
-use Rattle.order.proofs.brothers.goes_first.Lts as lts
-use Rattle.order.proofs.brothers.compare.Reads as compare-reads
+use Rattle.order.proofs.sorting.goes_first.Statement.{statement}
+use Rattle.order.proofs.sorting.goes_first.Tie as tie
+use Rattle.order.proofs.sorting.goes_first.Reads as reads
+use Rattle.order.proofs.sorting.goes_first.Lts as lts
+use Rattle.order.proofs.sorting.compare.Reads as compare-reads
 use Rattle.order.proofs.key.key_at.Reads as key-at-reads
 use Rattle.rows.proofs.link.Reads as link-reads
 

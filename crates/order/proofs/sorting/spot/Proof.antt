@@ -4,11 +4,11 @@ use lib.ListN.{getD}
 use Rattle.meaning.specs.Tree.{size}
 use Rattle.order.specs.Links.{Finite, forestAt, spotOf, spotAt}
 use Rattle.order.proofs.Links.{opens, goes-along, spot-end, spot-here, spot-on}
-use Rattle.order.proofs.brothers.spot.Statement.{statement}
-use Rattle.order.proofs.brothers.spot.Tie as tie
-use Rattle.order.proofs.brothers.spot.Reads as reads
-use Rattle.order.proofs.brothers.spot.Lts as lts
-use Rattle.order.proofs.brothers.goes_first.Reads as goes-first-reads
+use Rattle.order.proofs.sorting.spot.Statement.{statement}
+use Rattle.order.proofs.sorting.spot.Tie as tie
+use Rattle.order.proofs.sorting.spot.Reads as reads
+use Rattle.order.proofs.sorting.spot.Lts as lts
+use Rattle.order.proofs.sorting.goes_first.Reads as goes-first-reads
 use Rattle.rows.proofs.link.Reads as link-reads
 
 abbrev Inv-loop : tie.InvT-loop

@@ -5,12 +5,12 @@ use native.Mathlib.Omega.{arith}
 use lib.ListN.{length, length-set}
 use Rattle.order.specs.Links.{slotOf}
 use Rattle.order.specs.Sorting.{Sortable, Sorting}
-use Rattle.order.proofs.Sorting.{sorting-none, sortable-kept, row-ready, count-fits, sorting-turn, sorted-all}
-use Rattle.order.proofs.brothers.sort_rows.Statement.{statement}
-use Rattle.order.proofs.brothers.sort_rows.Tie as tie
-use Rattle.order.proofs.brothers.sort_rows.Reads as reads
-use Rattle.order.proofs.brothers.sort_rows.Lts as lts
-use Rattle.order.proofs.brothers.place.Reads as place-reads
+use Rattle.order.proofs.Placing.{sorting-none, sortable-kept, row-ready, count-fits, sorting-turn, sorted-all}
+use Rattle.order.proofs.sorting.sort_rows.Statement.{statement}
+use Rattle.order.proofs.sorting.sort_rows.Tie as tie
+use Rattle.order.proofs.sorting.sort_rows.Reads as reads
+use Rattle.order.proofs.sorting.sort_rows.Lts as lts
+use Rattle.order.proofs.sorting.place.Reads as place-reads
 use Rattle.order.proofs.children.clear.Reads as clear-reads
 use Rattle.order.proofs.children.slot.Reads as slot-reads
 use Rattle.order.proofs.key.key_of.Reads as key-of-reads

@@ -6,13 +6,13 @@ use Rattle.order.proofs.Links.{Pending, pending, none-none, none-some, 
 use Prim.Native.Nat.{ℕ, _<_}
 use borrow.Fn.Kinds.{In}
 use borrow.Fn.PlainCycle.{Measures, is, falls, and}
-use Rattle.order.proofs.brothers.compare.Reads as compare
-use Rattle.order.proofs.brothers.compare.Kinds as compare-kinds
-use Rattle.order.proofs.brothers.+compare.Lts-compare as compare-lts
+use Rattle.order.proofs.sorting.compare.Reads as compare
+use Rattle.order.proofs.sorting.compare.Kinds as compare-kinds
+use Rattle.order.proofs.sorting.+compare.Lts-compare as compare-lts
 use Rattle.order.proofs.key.key_at.Reads as key-at-reads
 use Rattle.rows.proofs.link.Reads as link-reads
-use Rattle.order.proofs.brothers.+compare.{statement}
-use Rattle.order.proofs.brothers.+compare.Tie.{close}
+use Rattle.order.proofs.sorting.+compare.{statement}
+use Rattle.order.proofs.sorting.+compare.Tie.{close}
 
 abbrev μ-compare : Measures 3 compare-kinds.ps ℕ
 μ-compare κs a = height (forestAt (a .1 .1 .1 .0) (a .0 .now) (a .1 .0 .now) (a .1 .1 .1 .1 .0))
