@@ -56,12 +56,6 @@ pub record Finite (n : ℕ) (fs ns : List ℕ) (c : ℕ) : Type 0 where
   pub holds : Linked n fs ns c (forestAt n fs ns c)
   pub small : size (forestAt n fs ns c) ≤ n
 
--- every row has its place in the lists
-pub record Wide (n : ℕ) (fs ns key : List ℕ) : Type 0 where
-  pub firsts : n ≤ length fs
-  pub nexts : n ≤ length ns
-  pub keys : n ≤ length key
-
 -- at the last slot a tree of n rows is read; no rows are the empty tree
 pub record Listed (n : ℕ) (fs ns : List ℕ) : Type 0 where
   pub finite : Finite n fs ns (getD fs n 0)
@@ -125,9 +119,9 @@ unfoldable pub spotAt : ℕ → List ℕ → List ℕ → List ℕ → ℕ → �
 spotAt n fs ns key c q = spotOf key c (forestAt n fs ns (getD fs c 0)) n (forestAt n fs ns q)
 
 -- the tree at c may be put into the list at q
-pub record Ready (n : ℕ) (fs ns key : List ℕ) (c q : ℕ) : Type 0 where
+pub record Ready (n : ℕ) (fs ns : List ℕ) (c q : ℕ) : Type 0 where
   pub few : n ≤ mostNodes
-  pub wide : Wide n fs ns key
+  pub nexts : n ≤ length ns
   pub inside : c < n
   pub low : q < 65536
   pub kids : Finite n fs ns (getD fs c 0)
@@ -139,4 +133,5 @@ pub record Ready (n : ℕ) (fs ns key : List ℕ) (c q : ℕ) : Type 0 where
 pub record PutAmong (n : ℕ) (fs ns key : List ℕ) (c q : ℕ) (ns′ : List ℕ) (r : ℕ) : Type 0 where
   pub linked : Linked n fs ns′ r (placeBy key c (forestAt n fs ns (getD fs c 0)) (forestAt n fs ns q))
   pub low : r < 65536
+  pub long : length ns′ ≡ length ns
   pub rest : (j : ℕ) → (j ≡ c → ⊥) → (In j (forestAt n fs ns q) → ⊥) → getD ns′ j 0 ≡ getD ns j 0
