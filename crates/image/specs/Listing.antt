@@ -1,8 +1,7 @@
 -- The bytes of n rows, one row after the other. Where the rows are a tree in image order this is the tree's image (proofs/Image).
 use mathlib.Core.List.{List, [], _++_}
-use Prim.Native.Nat.{ℕ, zero, suc, _≤_}
-use lib.ListN.{length, getD}
-use Rattle.meaning.specs.Limits.{mostNodes}
+use Prim.Native.Nat.{ℕ, zero, suc}
+use lib.ListN.{getD}
 use Rattle.meaning.specs.Number.{num}
 
 -- what a record begins with: "label code .., mark .., number of children"
@@ -17,10 +16,3 @@ rowsFrom code mark kids (suc k) u = head (getD code u 0) (getD mark u 0) (getD k
 -- "First the number of nodes, 0 for empty." Then the rows
 unfoldable pub listing : List ℕ → List ℕ → List ℕ → ℕ → List ℕ
 listing code mark kids n = num n ++ rowsFrom code mark kids n 0
-
--- the three numbers of n rows are there, and n is no more than the nodes of a tree query
-pub record Listed (code mark kids : List ℕ) (n : ℕ) : Type 0 where
-  pub few : n ≤ mostNodes
-  pub codes : n ≤ length code
-  pub marks : n ≤ length mark
-  pub counts : n ≤ length kids

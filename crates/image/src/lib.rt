@@ -1,11 +1,15 @@
 // The image of rows in image order: "First the number of nodes", then one pass over the rows. A node's record begins with its three numbers and
 // goes on with its children's records, and these are the rows that follow.
 // The length is a function of its own: a room that is too short is refused before its first byte is written.
+use rows::Codes;
+use rows::Links;
+use rows::Marks;
 ghost use mathlib.Core.Path.{_≡_};
 ghost use Prim.Native.Nat.{_+_, _≤_};
 ghost use lib.ListN.{length};
+ghost use Rattle.meaning.specs.Limits.{mostNodes};
 ghost use Rattle.groups.specs.Put.{put, Written};
-ghost use Rattle.image.specs.Listing.{head, listing, Listed};
+ghost use Rattle.image.specs.Listing.{head, listing};
 
 // How many bytes the head of a record takes.
 fn head_length(code: u32, mark: u8, kids: u16) -> usize
@@ -28,8 +32,8 @@ fn put_head(room: &mut [u8], at: usize, code: u32, mark: u8, kids: u16) -> usize
 }
 
 // How many bytes the image of n rows has.
-pub fn image_length(code: &[u32], mark: &[u8], kids: &[u16], n: usize) -> usize
-    requires { ⌜ Listed (now code) (now mark) (now kids) n ⌝ }
+pub fn image_length(code: &Codes, mark: &Marks, kids: &Links, n: usize) -> usize
+    requires { ⌜ n ≤ mostNodes ⌝ }
     ensures { λ r. ⌜ r ≡ length (listing (now (code .entry)) (now (mark .entry)) (now (kids .entry)) n) ⌝ }
 {
     let mut bytes = groups::number_length(n as u32);
@@ -43,14 +47,13 @@ pub fn image_length(code: &[u32], mark: &[u8], kids: &[u16], n: usize) -> usize
 pub fn put_image(
     room: &mut [u8],
     at: usize,
-    code: &[u32],
-    mark: &[u8],
-    kids: &[u16],
+    code: &Codes,
+    mark: &Marks,
+    kids: &Links,
     n: usize,
 ) -> usize
     requires { ⌜
-        Listed (now code) (now mark) (now kids) n
-        × (at + length (listing (now code) (now mark) (now kids) n) ≤ length (now room)) ⌝ }
+        (n ≤ mostNodes) × (at + length (listing (now code) (now mark) (now kids) n) ≤ length (now room)) ⌝ }
     ensures { λ r. ⌜
         Written (now (room .entry)) at
         (listing (now (code .entry)) (now (mark .entry)) (now (kids .entry)) n) (now (room .exit)) r ⌝ }

@@ -11,8 +11,8 @@ use borrow.Author.Tests.{lt-ltb, le-ltb}
 use Rattle.meaning.specs.Basics.{pick}
 use Rattle.meaning.specs.Image.{LeL, decL}
 use Rattle.theory.proofs.Look.{never}
-use Rattle.order.specs.declared.brothers.Order.{Order}
-use Rattle.order.specs.declared.brothers.Order.the-variants.{Before, Same, After}
+use Rattle.order.specs.declared.sorting.Order.{Order}
+use Rattle.order.specs.declared.sorting.Order.the-variants.{Before, Same, After}
 use Rattle.order.specs.Links.{thenBy, cmpN, upTo}
 
 pub then-assoc : (a b c : Order) → thenBy (thenBy a b) c ≡ thenBy a (thenBy b c)

@@ -143,7 +143,7 @@ module _ (n : ℕ) (fs ns key : List ℕ) (c : ℕ) (K : Forest ℕ) (lc : c < n
             ),
           )
 
-module _ {n : ℕ} {fs ns key : List ℕ} {c q : ℕ} (w : Ready n fs ns key c q) {p : ℕ} (ep : p ≡ spotAt n fs ns key c q) where
+module _ {n : ℕ} {fs ns : List ℕ} {c q : ℕ} (w : Ready n fs ns c q) (key : List ℕ) {p : ℕ} (ep : p ≡ spotAt n fs ns key c q) where
   abbrev K : Forest ℕ
   K = forestAt n fs ns (getD fs c 0)
 
@@ -151,11 +151,11 @@ module _ {n : ℕ} {fs ns key : List ℕ} {c q : ℕ} (w : Ready n fs ns key c q
   Q = forestAt n fs ns q
 
   abbrev Landed : ℕ → Type 0
-  Landed x = Lands n fs ns key c K (w .inside) (w .wide .nexts) (w .kids .holds) (w .apart .0) q n Q x
+  Landed x = Lands n fs ns key c K (w .inside) (w .nexts) (w .kids .holds) (w .apart .0) q n Q x
 
   landed : Landed p
   unfolding spotAt
-  landed = rw ep (lands n fs ns key c K (w .inside) (w .wide .nexts) (w .kids .holds) (w .apart .0) Q q n (w .list .holds) (w .apart .4) (w .apart .1) (w .apart .2))
+  landed = rw ep (lands n fs ns key c K (w .inside) (w .nexts) (w .kids .holds) (w .apart .0) Q q n (w .list .holds) (w .apart .4) (w .apart .1) (w .apart .2))
 
   pub placed-front : n ≤ p → PutAmong n fs ns key c q (set ns c q) c
   placed-front h = go landed
@@ -169,9 +169,10 @@ module _ {n : ℕ} {fs ns key : List ℕ} {c q : ℕ} (w : Ready n fs ns key c q
           refl,
           w .inside,
           same K (getD fs c 0) (w .apart .0) (w .kids .holds),
-          rw (getD-set-same ns c q 0 (omega (arith, w .inside, w .wide .nexts))) (same Q q (w .apart .1) (w .list .holds)),
+          rw (getD-set-same ns c q 0 (omega (arith, w .inside, w .nexts))) (same Q q (w .apart .1) (w .list .holds)),
         );
         low = omega (arith, w .inside, w .few);
+        long = length-set ns c q;
         rest = λ j jc jq. getD-set-other ns c j q 0 jc;
       }
       go (inr (m, y)) = absurd (omega (arith, in-lt n fs ns Q q p (w .list .holds) m))
@@ -184,6 +185,7 @@ module _ {n : ℕ} {fs ns key : List ℕ} {c q : ℕ} (w : Ready n fs ns key c q
       go (inr (m, y)) = record {
         linked = y;
         low = w .low;
+        long = length-set (set ns c (getD ns p 0)) p c ∙ length-set ns c (getD ns p 0);
         rest = λ j jc jq. getD-set-other (set ns c (getD ns p 0)) p j c 0 (λ x. jq (rw x m)) ∙ getD-set-other ns c j (getD ns p 0) 0 jc;
       }
 

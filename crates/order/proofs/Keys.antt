@@ -8,7 +8,7 @@ use native.Mathlib.Decide.{decLt}
 use native.Mathlib.Nat.{mul-le-mul-right}
 use Rattle.meaning.specs.Number.{numF, num}
 use Rattle.theory.proofs.Numbers.{numF-one, numF-more, num-one, reach, num-back}
-use Rattle.order.specs.declared.brothers.Order.the-variants.{Same}
+use Rattle.order.specs.declared.sorting.Order.the-variants.{Same}
 use Rattle.order.specs.Links.{thenBy, cmpN}
 use Rattle.order.specs.Keys.{weight, filled, threeBytes, keyOf}
 use Rattle.order.proofs.Comparing.{then-assoc, cmp-lt, cmp-gt, cmp-eq, digit-cmp, cmpL, cmp-same}

@@ -5,14 +5,15 @@ use Prim.Native.Nat.{ℕ, suc, _+_, _-_, _*_, _%_, _<_, _≤_}
 use native.Mathlib.Numerals.{add-one}
 use native.Mathlib.Omega.{arith}
 use native.Mathlib.Decide.{ℕ-discrete}
-use lib.ListN.{length, getD, set, length-set}
+use lib.ListN.{getD, set, length-set}
 use lib.Seq.{getD-set-same, getD-set-other}
+use Rattle.meaning.specs.Limits.{mostNodes}
 use Rattle.meaning.specs.Number.{largestLabel}
 use Rattle.meaning.specs.Tree.{Forest, bare, tree, size}
 use Rattle.rows.specs.Rows.{noRow, tagAt, shape, mapT, treeRows, Holds, width, Counted, Hung, Rows}
 use Rattle.rows.proofs.Rows.{holds-is}
 use Rattle.order.specs.Links.{forestAt, Linked, Listed}
-use Rattle.order.specs.Contract.{LaySpace, Tagged}
+use Rattle.order.specs.Contract.{Room, Tagged}
 
 -- the five lists of the rows
 pub record Out : Type 0 where
@@ -21,14 +22,6 @@ pub record Out : Type 0 where
   pub kids : List ℕ
   pub span : List ℕ
   pub up : List ℕ
-
--- each is as long as it was
-pub record Long (o₀ o : Out) : Type 0 where
-  pub codes : length (o .code) ≡ length (o₀ .code)
-  pub marks : length (o .mark) ≡ length (o₀ .mark)
-  pub counts : length (o .kids) ≡ length (o₀ .kids)
-  pub spans : length (o .span) ≡ length (o₀ .span)
-  pub ups : length (o .up) ≡ length (o₀ .up)
 
 -- row `at` has the tag of row i of the table, and hangs from row u
 abbrev pub Bears : List ℕ → List ℕ → Out → ℕ → ℕ → ℕ → Type 0
@@ -83,21 +76,29 @@ abbrev pub Keeps : Out → Out → ℕ → Above → Type 0
 Keeps o o′ at A = (j : ℕ) → j < at → (getD (o′ .code) j 0 ≡ getD (o .code) j 0) × (getD (o′ .mark) j 0 ≡ getD (o .mark) j 0) × (getD (o′ .up) j 0 ≡ getD (o .up) j 0)
     × (Off j A → (getD (o′ .kids) j 0 ≡ getD (o .kids) j 0) × (getD (o′ .span) j 0 ≡ getD (o .span) j 0))
 
--- before row `at` the forest F is laid out but for the forest at x, which comes next below row u, behind k brothers, and for what waits: rows that show
--- both show it
-pub record Laying (code mark : List ℕ) (n : ℕ) (fs ns : List ℕ) (F : Forest ℕ) (o₀ o : Out) (at u x k : ℕ) : Type 0 where
-  pub long : Long o₀ o
+-- what is laid out
+abbrev pub whole : ℕ → List ℕ → List ℕ → Forest ℕ
+whole n fs ns = forestAt n fs ns (getD fs n 0)
+
+-- before row `at` it is laid out but for the forest at x, which comes next below row u, behind k brothers, and for what waits: rows that show both
+-- show it
+pub record Laying (code mark : List ℕ) (n : ℕ) (fs ns : List ℕ) (o : Out) (at u x k : ℕ) : Type 0 where
+  pub tagged : Tagged code mark n
+  pub listed : Listed n fs ns
+  pub room : Room (o .code) (o .mark) (o .kids) (o .span) (o .up)
   pub next : Forest ℕ
   pub above : Above
   pub under : u ≡ lowest above
   pub fit : u < 65536
+  pub back : (u + 1) % 65536 ≤ at
   pub linked : Linked n fs ns x next
   pub waits : Waits n fs ns o at above
   pub total : at + size next + left above ≡ n
   pub counted : k + width next ≡ wide above
   pub low : k ≤ at
   pub tags : (j : ℕ) → j < at → (getD (o .code) j 0 ≤ suc largestLabel) × (getD (o .mark) j 0 ≤ 3)
-  pub closes : (o′ : Out) → Keeps o o′ at above → Shows code mark o′ u at next → Follows code mark o′ (at + size next) above → Shows code mark o′ noRow 0 F
+  pub closes : (o′ : Out) → Keeps o o′ at above → Shows code mark o′ u at next → Follows code mark o′ (at + size next) above
+      → Shows code mark o′ noRow 0 (whole n fs ns)
 
 -- a row at or behind `at` does not wait
 off : (n : ℕ) (fs ns : List ℕ) (o : Out) (at j : ℕ) (A : Above) → Waits n fs ns o at A → at ≤ j → Off j A
@@ -121,29 +122,28 @@ lowest-before n fs ns o at (below u w r A) v h = (omega (arith, v .0), omega (ar
 abbrev pub toGo : ℕ → ℕ → ℕ → ℕ
 toGo n at u = 65536 * (n - at) + (u + 1) % 65536
 
--- what is laid out
-abbrev pub whole : ℕ → List ℕ → List ℕ → Forest ℕ
-whole n fs ns = forestAt n fs ns (getD fs n 0)
-
-module _ {code mark : List ℕ} {n : ℕ} {fs ns : List ℕ} {o₀ : Out}
-    (P : Tagged code mark n × Listed n fs ns × LaySpace n fs ns (o₀ .code) (o₀ .mark) (o₀ .kids) (o₀ .span) (o₀ .up)) where
-  pub laying-none : {c : ℕ} → c ≡ getD fs n 0 → Laying code mark n fs ns (whole n fs ns) o₀ o₀ 0 noRow c 0
-  laying-none e = record {
-    long = record { codes = refl; marks = refl; counts = refl; spans = refl; ups = refl };
+module _ {code mark : List ℕ} {n : ℕ} {fs ns : List ℕ} {o : Out} where
+  pub laying-none : Tagged code mark n × Listed n fs ns × Room (o .code) (o .mark) (o .kids) (o .span) (o .up) → {c : ℕ} → c ≡ getD fs n 0
+      → Laying code mark n fs ns o 0 noRow c 0
+  laying-none (T, L, R) e = record {
+    tagged = T;
+    listed = L;
+    room = R;
     next = whole n fs ns;
     above = top (width (whole n fs ns));
     under = refl;
     fit = omega arith;
-    linked = rw e (P .1 .finite .holds);
+    back = omega arith;
+    linked = rw e (L .finite .holds);
     waits = tt;
-    total = omega (arith, P .1 .all);
+    total = omega (arith, L .all);
     counted = omega arith;
     low = omega arith;
     tags = λ j l. absurd (omega arith);
     closes = λ o′ h s t. s;
   }
 
-  module _ {o : Out} {at u x k : ℕ} (w : Laying code mark n fs ns (whole n fs ns) o₀ o at u x k) where
+  module _ {at u x k : ℕ} (w : Laying code mark n fs ns o at u x k) where
     -- ------------------------------------------------------------ down to the first child
     module _ (l : x < n) where
       abbrev down : Out
@@ -159,22 +159,16 @@ module _ {code mark : List ℕ} {n : ℕ} {fs ns : List ℕ} {o₀ : Out}
       more bare h t = absurd (omega arith)
       more (tree i K Z) h t = omega arith
 
-      pub inside : at < n
+      inside : at < n
       inside = more (w .next) (w .linked) (w .total)
 
-      pub fits : (at < length (o .code)) × (at < length (o .mark)) × (at < length (o .kids)) × (at < length (o .span)) × (at < length (o .up))
-      fits = (
-        omega (arith, inside, P .2 .codes, w .long .codes),
-        omega (arith, inside, P .2 .marks, w .long .marks),
-        omega (arith, inside, P .2 .counts, w .long .counts),
-        omega (arith, inside, P .2 .spans, w .long .spans),
-        omega (arith, inside, P .2 .ups, w .long .ups),
-      )
+      pub fits : at < mostNodes
+      fits = omega (arith, inside, w .tagged .few)
 
       pub down-less : toGo n (at + 1) at < toGo n at u
-      down-less = omega (arith, inside, P .0 .few)
+      down-less = omega (arith, inside, fits)
 
-      pub laying-down : {c : ℕ} → c ≡ getD fs x 0 → Laying code mark n fs ns (whole n fs ns) o₀ down (at + 1) at c 0
+      pub laying-down : {c : ℕ} → c ≡ getD fs x 0 → Laying code mark n fs ns down (at + 1) at c 0
       laying-down e = rw (add-one at, e) (go (w .next) (w .linked) (w .total) (w .counted) (w .closes))
         where
           before : (j : ℕ) → j < at → (getD (down .code) j 0 ≡ getD (o .code) j 0) × (getD (down .mark) j 0 ≡ getD (o .mark) j 0) × (getD (down .up) j 0 ≡ getD (o .up) j 0)
@@ -191,34 +185,37 @@ module _ {code mark : List ℕ} {n : ℕ} {fs ns : List ℕ} {o₀ : Out}
           here : Bears code mark down at x u × (getD (down .kids) at 0 ≡ k) × (getD (down .span) at 0 ≡ x)
           here = (
             (
-              getD-set-same (o .code) at (getD code x 0) 0 (fits .0),
-              getD-set-same (o .mark) at (getD mark x 0) 0 (fits .1),
-              getD-set-same (o .up) at u 0 (fits .4),
+              getD-set-same (o .code) at (getD code x 0) 0 (omega (arith, fits, w .room .codes)),
+              getD-set-same (o .mark) at (getD mark x 0) 0 (omega (arith, fits, w .room .marks)),
+              getD-set-same (o .up) at u 0 (omega (arith, fits, w .room .ups)),
             ),
-            getD-set-same (o .kids) at k 0 (fits .2),
-            getD-set-same (o .span) at x 0 (fits .3),
+            getD-set-same (o .kids) at k 0 (omega (arith, fits, w .room .counts)),
+            getD-set-same (o .span) at x 0 (omega (arith, fits, w .room .spans)),
           )
 
           tagged : (j : ℕ) → j < suc at → Dec (j ≡ at) → (getD (down .code) j 0 ≤ suc largestLabel) × (getD (down .mark) j 0 ≤ 3)
-          tagged j h (yes q) = rw (q, here .0 .0, here .0 .1) (P .0 .labels x l, P .0 .marked x l)
+          tagged j h (yes q) = rw (q, here .0 .0, here .0 .1) (w .tagged .labels x l, w .tagged .marked x l)
           tagged j h (no q) = let b = before j (omega arith) in rw (b .0, b .1) (w .tags j (omega arith))
 
           go : (X : Forest ℕ) → Linked n fs ns x X → at + size X + left (w .above) ≡ n → k + width X ≡ wide (w .above)
               → ((o′ : Out) → Keeps o o′ at (w .above) → Shows code mark o′ u at X → Follows code mark o′ (at + size X) (w .above) → Shows code mark o′ noRow 0 (whole n fs ns))
-              → Laying code mark n fs ns (whole n fs ns) o₀ down (suc at) at (getD fs x 0) 0
+              → Laying code mark n fs ns down (suc at) at (getD fs x 0) 0
           go bare h t q c = absurd (omega arith)
           go (tree i K Z) (ei, li, hk, hz) t q c = record {
-            long = record {
-              codes = length-set (o .code) at (getD code x 0) ∙ w .long .codes;
-              marks = length-set (o .mark) at (getD mark x 0) ∙ w .long .marks;
-              counts = length-set (o .kids) at k ∙ w .long .counts;
-              spans = length-set (o .span) at x ∙ w .long .spans;
-              ups = length-set (o .up) at u ∙ w .long .ups;
+            tagged = w .tagged;
+            listed = w .listed;
+            room = record {
+              codes = length-set (o .code) at (getD code x 0) ∙ w .room .codes;
+              marks = length-set (o .mark) at (getD mark x 0) ∙ w .room .marks;
+              counts = length-set (o .kids) at k ∙ w .room .counts;
+              spans = length-set (o .span) at x ∙ w .room .spans;
+              ups = length-set (o .up) at u ∙ w .room .ups;
             };
             next = K;
             above = below at (width K) Z (w .above);
             under = refl;
-            fit = omega (arith, inside, P .0 .few);
+            fit = omega (arith, fits);
+            back = omega (arith, fits);
             linked = rw ei hk;
             waits = (
               omega arith,
@@ -275,19 +272,17 @@ module _ {code mark : List ℕ} {n : ℕ} {fs ns : List ℕ} {o₀ : Out}
         where
           go : (A : Above) → u ≡ lowest A → Waits n fs ns o at A → Ended A → (at ≡ n) × Shows code mark o noRow 0 (whole n fs ns)
           go (top b) q v E = (omega (arith, E .total), E .closes o (λ j m. (refl, refl, refl, λ f. (refl, refl))) tt)
-          go (below v b r A) q y E = absurd (omega (arith, P .0 .few, E .total, y .0))
+          go (below v b r A) q y E = absurd (omega (arith, w .tagged .few, E .total, y .0))
 
       -- row u gets its span and its number of children, and its next brother comes next
       abbrev climbed : Out
       climbed = record { code = o .code; mark = o .mark; kids = set (o .kids) u k; span = set (o .span) u (at - u); up = o .up }
 
       pub record Climbs : Type 0 where
-        pub before : u < at
-        pub fits : (u < length (o .kids)) × (u < length (o .span)) × (u < length (o .up))
-        pub short : (at - u < 65536) × (getD (o .kids) u 0 + 1 < 65536)
+        pub short : getD (o .kids) u 0 + 1 < 65536
         pub inside : getD (o .span) u 0 < n
         pub up-less : toGo n at (getD (o .up) u 0) < toGo n at u
-        pub laying-on : Laying code mark n fs ns (whole n fs ns) o₀ climbed at (getD (o .up) u 0) (getD ns (getD (o .span) u 0) 0) (getD (o .kids) u 0 + 1)
+        pub laying-on : Laying code mark n fs ns climbed at (getD (o .up) u 0) (getD ns (getD (o .span) u 0) 0) (getD (o .kids) u 0 + 1)
 
       pub climbs : (u ≡ noRow → ⊥) → Climbs
       climbs d = go (w .above) (w .under) (w .waits) ended
@@ -295,29 +290,27 @@ module _ {code mark : List ℕ} {n : ℕ} {fs ns : List ℕ} {o₀ : Out}
           go : (A : Above) → u ≡ lowest A → Waits n fs ns o at A → Ended A → Climbs
           go (top b) q v E = absurd (d q)
           go (below v b r A) q (m, p, a, c, i, f, y) E =
-              let s = E .total in
-              let z = lowest-before n fs ns o v A y (omega (arith, s, P .0 .few)) in
-              let l : u < at = rw q m in
-              let lk : u < length (o .kids) = omega (arith, s, P .2 .counts, w .long .counts) in
-              let ls : u < length (o .span) = omega (arith, s, P .2 .spans, w .long .spans) in
+              let s = E .total in let few = w .tagged .few in let l : u < at = rw q m in let u-fits : u < mostNodes = omega arith in
+              let z = lowest-before n fs ns o v A y (omega arith) in
               record {
-                before = l;
-                fits = (lk, ls, omega (arith, s, P .2 .ups, w .long .ups));
-                short = (omega (arith, s, P .0 .few), rw q (omega (arith, a, m, s, P .0 .few)));
+                short = rw q (omega arith);
                 inside = rw q i;
-                up-less = rw (q, p) (omega (arith, z .1, m, s, P .0 .few));
+                up-less = rw (q, p) (omega (arith, z .1));
                 laying-on = record {
-                  long = record {
-                    codes = w .long .codes;
-                    marks = w .long .marks;
-                    counts = length-set (o .kids) u k ∙ w .long .counts;
-                    spans = length-set (o .span) u (at - u) ∙ w .long .spans;
-                    ups = w .long .ups;
+                  tagged = w .tagged;
+                  listed = w .listed;
+                  room = record {
+                    codes = w .room .codes;
+                    marks = w .room .marks;
+                    counts = length-set (o .kids) u k ∙ w .room .counts;
+                    spans = length-set (o .span) u (at - u) ∙ w .room .spans;
+                    ups = w .room .ups;
                   };
                   next = r;
                   above = A;
                   under = rw q p;
                   fit = rw (q, p) (z .0);
+                  back = rw (q, p) (omega (arith, z .1));
                   linked = rw q f;
                   waits =
                       waits-kept n fs ns o climbed v at A (omega (arith, m))
@@ -328,8 +321,8 @@ module _ {code mark : List ℕ} {n : ℕ} {fs ns : List ℕ} {o₀ : Out}
                   tags = w .tags;
                   closes = λ o′ g t j.
                       let x = g u l .3 (rw q (off n fs ns o v v A y (omega arith))) in
-                      let ek : getD (o′ .kids) u 0 ≡ b = x .0 ∙ getD-set-same (o .kids) u k 0 lk ∙ E .counted in
-                      let es : getD (o′ .span) u 0 ≡ at - u = x .1 ∙ getD-set-same (o .span) u (at - u) 0 ls in
+                      let ek : getD (o′ .kids) u 0 ≡ b = x .0 ∙ getD-set-same (o .kids) u k 0 (omega (arith, u-fits, w .room .counts)) ∙ E .counted in
+                      let es : getD (o′ .span) u 0 ≡ at - u = x .1 ∙ getD-set-same (o .span) u (at - u) 0 (omega (arith, u-fits, w .room .spans)) in
                       E .closes o′
                       (λ i m′. let x′ = g i m′ in (
                         x′ .0,
@@ -387,29 +380,28 @@ unfolding shape
 shape-is span n F h = holds-is n span 0 n F h (omega arith)
 
 -- when all is laid out, the rows are the tree
-module _ {code mark : List ℕ} {n : ℕ} {fs ns : List ℕ} {o₀ : Out}
-    (P : Tagged code mark n × Listed n fs ns × LaySpace n fs ns (o₀ .code) (o₀ .mark) (o₀ .kids) (o₀ .span) (o₀ .up))
-    {o : Out} {at u x k : ℕ} (w : Laying code mark n fs ns (whole n fs ns) o₀ o at u x k) where
+module _ {code mark : List ℕ} {n : ℕ} {fs ns : List ℕ} {o : Out} {at u x k : ℕ} (w : Laying code mark n fs ns o at u x k) where
   pub laid-rows : n ≤ x → u ≡ noRow
       → Rows (o .code) (o .mark) (o .kids) (o .span) (o .up) n × (treeRows (o .code) (o .mark) (o .span) n ≡ mapT (tagAt code mark) (whole n fs ns))
+      × Room (o .code) (o .mark) (o .kids) (o .span) (o .up)
   laid-rows h e =
-      let a = laid-all P w h e in
-      let F = whole n fs ns in
-      let held : Holds (o .span) 0 n (numbered 0 F) = holds-shown code mark o noRow 0 n F (a .1) (omega (arith, P .1 .all)) in
+      let a = laid-all w h e in let F = whole n fs ns in let few = w .tagged .few in let r = w .room in
+      let held : Holds (o .span) 0 n (numbered 0 F) = holds-shown code mark o noRow 0 n F (a .1) (omega (arith, w .listed .all)) in
       let is = shape-is (o .span) n (numbered 0 F) held in (
         record {
-          few = P .0 .few;
-          codes = omega (arith, P .2 .codes, w .long .codes);
-          marks = omega (arith, P .2 .marks, w .long .marks);
-          counts = omega (arith, P .2 .counts, w .long .counts);
-          spans = omega (arith, P .2 .spans, w .long .spans);
-          ups = omega (arith, P .2 .ups, w .long .ups);
+          few = few;
+          codes = omega arith;
+          marks = omega arith;
+          counts = omega arith;
+          spans = omega arith;
+          ups = omega arith;
           labels = λ j l. w .tags j (omega (arith, a .0)) .0;
           marked = λ j l. w .tags j (omega (arith, a .0)) .1;
           laid = rw is held;
           counted = rw is (counted-shown code mark o noRow 0 F (a .1));
           hung = rw is (hung-shown code mark o noRow 0 F (a .1));
-          single = rw (is, width-numbered 0 F) (P .1 .single);
+          single = rw (is, width-numbered 0 F) (w .listed .single);
         },
         unfold treeRows in rw is (tags-shown code mark o noRow 0 F (a .1)),
+        r,
       )

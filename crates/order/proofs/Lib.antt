@@ -1,6 +1,6 @@
 -- The way through, from below: comparisons and keys; the links that hold forests, and putting a tree into its place; the table's tree, and its lists in
--- the order of the table (Gathering) or in byte order (Below, Sorting); rows that show a tree; and what `image_rows` and `tree_rows` hand on. Then rows
--- as a table themselves.
+-- the order of the table (Gathering) or in byte order (Below, Placing); rows that show a tree. Then rows as a table
+-- themselves.
 pub mod Comparing
 pub mod Keys
 pub mod Links
@@ -10,7 +10,6 @@ pub mod Growing
 pub mod QueryTable
 pub mod Gathering
 pub mod Below
-pub mod Sorting
+pub mod Placing
 pub mod LaidOut
-pub mod ImageRows
 pub mod RowsTable

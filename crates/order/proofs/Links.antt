@@ -11,8 +11,8 @@ use lib.Dec.{ltb}
 use borrow.Author.Tests.{lt-ltb, le-ltb, ltb-true}
 use Rattle.meaning.specs.Tree.{Forest, bare, tree, size}
 use Rattle.rows.specs.Rows.{noRow}
-use Rattle.order.specs.declared.brothers.Order.{Order}
-use Rattle.order.specs.declared.brothers.Order.the-variants.{Before, Same, After}
+use Rattle.order.specs.declared.sorting.Order.{Order}
+use Rattle.order.specs.declared.sorting.Order.the-variants.{Before, Same, After}
 use Rattle.order.specs.Links.{slotOf, Known, forestFrom, forestAt, Linked, height, Finite, thenBy, cmpN, cmpF, comparedAt, upTo, goesFirst, spotOf}
 use Rattle.order.proofs.Comparing.{cmp-lt, cmp-gt, cmp-eq}
 
@@ -131,51 +131,62 @@ module _ {n : ℕ} {fs ns key : List ℕ} {x y a b : ℕ} (P : Pending n fs ns k
         let o = opens (P .one) ha in let z = height-tree _ _ _ _ (o .reads) .0 in
         (rw ei (omega (arith, z, P .level)), rw ei (o .down), rw ej (opens (P .two) hb .down))
 
-    module _ {k l : ℕ} (ek : k ≡ getD key a 0) (el : l ≡ getD key b 0) where
-      rest : Order
-      rest = cmpF key (forestAt n fs ns (getD ns a 0)) (forestAt n fs ns (getD ns b 0))
+    abbrev k : ℕ
+    k = getD key a 0
 
-      opened : comparedAt n fs ns key x y ≡ thenBy (cmpN k l) (thenBy (cmpF key (forestAt n fs ns (getD fs a 0)) (forestAt n fs ns (getD fs b 0))) rest)
+    abbrev l : ℕ
+    l = getD key b 0
+
+    rest : Order
+    rest = cmpF key (forestAt n fs ns (getD ns a 0)) (forestAt n fs ns (getD ns b 0))
+
+    opened : comparedAt n fs ns key x y ≡ thenBy (cmpN k l) (thenBy (cmpF key (forestAt n fs ns (getD fs a 0)) (forestAt n fs ns (getD fs b 0))) rest)
+    unfolding rest
+    opened = P .same ∙ rw (opens (P .one) ha .reads, opens (P .two) hb .reads) (unfold cmpF in refl)
+
+    pub by-less : k < l → Before ≡ comparedAt n fs ns key x y
+    by-less h = sym (rw (opened, cmp-lt k l h))
+
+    pub by-more : l < k → After ≡ comparedAt n fs ns key x y
+    by-more h = sym (rw (opened, cmp-gt k l h))
+
+    module _ (h : l ≤ k) (g : k ≤ l) {i j : ℕ} (ei : i ≡ getD fs a 0) (ej : j ≡ getD fs b 0) {o : Order} (eo : o ≡ comparedAt n fs ns key i j) where
+      equal : comparedAt n fs ns key x y ≡ thenBy o rest
+      unfolding comparedAt
+      equal = rw (opened, cmp-eq k l h g, eo, ei, ej)
+
+      pub by-before : o ≡ Before → Before ≡ comparedAt n fs ns key x y
+      by-before e = sym (rw (equal, e))
+
+      pub by-after : o ≡ After → After ≡ comparedAt n fs ns key x y
+      by-after e = sym (rw (equal, e))
+
+      pub pending-next : o ≡ Same → {a′ b′ : ℕ} → a′ ≡ getD ns a 0 → b′ ≡ getD ns b 0 → Pending n fs ns key x y a′ b′
       unfolding rest
-      opened = P .same ∙ rw (opens (P .one) ha .reads, opens (P .two) hb .reads, ek, el) (unfold cmpF in refl)
-
-      pub by-less : k < l → Before ≡ comparedAt n fs ns key x y
-      by-less h = sym (rw (opened, cmp-lt k l h))
-
-      pub by-more : l < k → After ≡ comparedAt n fs ns key x y
-      by-more h = sym (rw (opened, cmp-gt k l h))
-
-      module _ (h : l ≤ k) (g : k ≤ l) {i j : ℕ} (ei : i ≡ getD fs a 0) (ej : j ≡ getD fs b 0) {o : Order} (eo : o ≡ comparedAt n fs ns key i j) where
-        equal : comparedAt n fs ns key x y ≡ thenBy o rest
-        unfolding comparedAt
-        equal = rw (opened, cmp-eq k l h g, eo, ei, ej)
-
-        pub by-before : o ≡ Before → Before ≡ comparedAt n fs ns key x y
-        by-before e = sym (rw (equal, e))
-
-        pub by-after : o ≡ After → After ≡ comparedAt n fs ns key x y
-        by-after e = sym (rw (equal, e))
-
-        pub pending-next : o ≡ Same → {a′ b′ : ℕ} → a′ ≡ getD ns a 0 → b′ ≡ getD ns b 0 → Pending n fs ns key x y a′ b′
-        unfolding rest
-        pending-next e ea eb =
-            let u = goes-along (P .one) ha ea in
-            record { one = u .0; two = goes-along (P .two) hb eb .0; level = omega (arith, u .2, P .level); same = rw (equal, e, ea, eb) }
+      pending-next e ea eb =
+          let u = goes-along (P .one) ha ea in
+          record { one = u .0; two = goes-along (P .two) hb eb .0; level = omega (arith, u .2, P .level); same = rw (equal, e, ea, eb) }
 
 -- ------------------------------------------------------------------ goes first
-module _ (n : ℕ) (fs ns key : List ℕ) (c q : ℕ) {a b : ℕ} (ea : a ≡ getD key c 0) (eb : b ≡ getD key q 0) where
+module _ (n : ℕ) (fs ns key : List ℕ) (c q : ℕ) where
+  abbrev a : ℕ
+  a = getD key c 0
+
+  abbrev b : ℕ
+  b = getD key q 0
+
   pub first-less : a < b → true ≡ goesFirst n fs ns key c q
   unfolding goesFirst
-  first-less h = sym (rw (← ea, ← eb, cmp-lt a b h))
+  first-less h = sym (rw (cmp-lt a b h))
 
   pub first-more : b < a → false ≡ goesFirst n fs ns key c q
   unfolding goesFirst
-  first-more h = sym (rw (← ea, ← eb, cmp-gt a b h))
+  first-more h = sym (rw (cmp-gt a b h))
 
   pub first-kids : b ≤ a → a ≤ b → {i j : ℕ} → i ≡ getD fs c 0 → j ≡ getD fs q 0 → {o p : Order} → o ≡ comparedAt n fs ns key i j → o ≡ p
       → upTo p ≡ goesFirst n fs ns key c q
   unfolding goesFirst comparedAt
-  first-kids h g ei ej eo ep = sym (rw (← ea, ← eb, cmp-eq a b h g, ← ei, ← ej, ← eo, ep))
+  first-kids h g ei ej eo ep = sym (rw (cmp-eq a b h g, ← ei, ← ej, ← eo, ep))
 
 -- ------------------------------------------------------------------ the place of a tree in a list
 -- the tree at c with k below it, the last brother p that goes before it, and the brothers from `at` on

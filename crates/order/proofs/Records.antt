@@ -12,8 +12,8 @@ use Rattle.meaning.specs.Image.{decL, labCode, markCode, flat, recordOf, record
 use Rattle.theory.proofs.Records.{Sorted, sorted-ordered}
 use Rattle.rows.specs.Rows.{mapT, width}
 use Rattle.rows.proofs.Rows.{width-mapT}
-use Rattle.order.specs.declared.brothers.Order.{Order}
-use Rattle.order.specs.declared.brothers.Order.the-variants.{Before, Same, After}
+use Rattle.order.specs.declared.sorting.Order.{Order}
+use Rattle.order.specs.declared.sorting.Order.the-variants.{Before, Same, After}
 use Rattle.order.specs.Links.{thenBy, cmpN, cmpF, cmpT, upTo, placeBy, orderedBy}
 use Rattle.order.specs.Keys.{keyOf}
 use Rattle.order.proofs.Comparing.{then-assoc, Three, three, lower, equal, upper, cmpL, pick-cmp}

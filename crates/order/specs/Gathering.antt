@@ -12,12 +12,10 @@ use Rattle.order.specs.Links.{slotOf, Known}
 abbrev pub Cleared : ℕ → List ℕ → List ℕ → Type 0
 Cleared i fs ns = (p : ℕ) → p < i → (getD fs p 0 ≡ noRow) × (getD ns p 0 ≡ 0)
 
--- room for the lists of n rows
-pub record Slots (parent : List ℕ) (n : ℕ) (fs ns : List ℕ) : Type 0 where
+-- each of n rows hangs from one of them, or from none
+pub record Hangs (parent : List ℕ) (n : ℕ) : Type 0 where
   pub few : n ≤ mostNodes
   pub parents : n ≤ length parent
-  pub firsts : n < length fs
-  pub nexts : n < length ns
   pub known : (i : ℕ) → i < n → Known n (getD parent i 0)
 
 -- from c on the links lead through exactly these rows, none before row b

@@ -6,12 +6,14 @@ use mathlib.Core.Bool.{cond}
 use Prim.Native.Nat.{ℕ, zero, suc, _-_, _≤_, _<_}
 use lib.ListN.{length, getD}
 use lib.Dec.{eqb}
+use Rattle.meaning.specs.Limits.{mostNodes}
 use Rattle.meaning.specs.Image.{ordered}
 use Rattle.meaning.specs.Tree.{Forest, bare, tree}
 use Rattle.rows.specs.Rows.{width, tagAt, mapT}
 use Rattle.rows.specs.Table.{tableTree, TreeTable, ParentsFirst}
 use Rattle.order.specs.Keys.{keyOf}
 use Rattle.order.specs.Links.{slotOf, Known, forestAt, Linked, Listed, orderedBy}
+use Rattle.order.specs.Contract.{Lent}
 
 -- the children of p among the k rows from j on, each with all below it
 unfoldable pub belowFrom : List ℕ → ℕ → ℕ → ℕ → Forest ℕ
@@ -23,9 +25,8 @@ belowFrom parent (suc k) j p =
 pub record Sortable (parent code mark : List ℕ) (n : ℕ) (fs ns key : List ℕ) : Type 0 where
   pub table : TreeTable parent code mark n
   pub order : ParentsFirst parent n
-  pub firsts : n < length fs
-  pub nexts : n < length ns
-  pub keys : n ≤ length key
+  pub lent : Lent fs ns
+  pub keys : length key ≡ mostNodes
 
 -- a row before b, or no row, has the list of its children from row b on, in order, and their number; the rows from b on have their keys
 pub record Sorting (parent code mark : List ℕ) (n b : ℕ) (fs ns key : List ℕ) : Type 0 where

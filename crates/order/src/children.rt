@@ -1,12 +1,14 @@
 // The children of each row, as lists: `first` has a row's first child, `next` its next brother. Behind the n rows `first` has one more slot, for the
 // list of the top, which has no parent. A link that is not below n leads nowhere.
 use rows::NO_ROW;
+use rows::Starts;
 use rows::link;
 ghost use mathlib.Core.Path.{_≡_};
 ghost use Prim.Native.Nat.{_+_, _<_, _≤_};
-ghost use lib.ListN.{length};
+ghost use Rattle.meaning.specs.Limits.{mostNodes};
 ghost use Rattle.order.specs.Links.{slotOf};
-ghost use Rattle.order.specs.Gathering.{Cleared, Slots, Gathered};
+ghost use Rattle.order.specs.Gathering.{Cleared, Hangs, Gathered};
+ghost use Rattle.order.specs.Contract.{Lent};
 
 // Where the list of p's children starts in `first`.
 pub fn slot(p: usize, n: usize) -> usize
@@ -19,9 +21,9 @@ pub fn slot(p: usize, n: usize) -> usize
 }
 
 // Empties the lists of n rows and of the top, and the counts that sorting keeps in `next`.
-pub fn clear(n: usize, first: &mut [u16], next: &mut [u16])
-    requires { ⌜ (n < length (now first)) × (n < length (now next)) ⌝ }
-    ensures { λ _. ⌜ Cleared (n + 1) (now (first .exit)) (now (next .exit)) ⌝ }
+pub fn clear(n: usize, first: &mut Starts, next: &mut Starts)
+    requires { ⌜ (n ≤ mostNodes) × Lent (now first) (now next) ⌝ }
+    ensures { λ _. ⌜ Cleared (n + 1) (now (first .exit)) (now (next .exit)) × Lent (now (first .exit)) (now (next .exit)) ⌝ }
 {
     let mut i: usize = 0;
     while i <= n {
@@ -32,9 +34,9 @@ pub fn clear(n: usize, first: &mut [u16], next: &mut [u16])
 }
 
 // Gives each parent the list of its children, in the order of the table.
-pub fn gather(parent: &[u16], n: usize, first: &mut [u16], next: &mut [u16])
-    requires { ⌜ Slots (now parent) n (now first) (now next) ⌝ }
-    ensures { λ _. ⌜ Gathered (now (parent .entry)) n 0 (now (first .exit)) (now (next .exit)) ⌝ }
+pub fn gather(parent: &[u16], n: usize, first: &mut Starts, next: &mut Starts)
+    requires { ⌜ Hangs (now parent) n × Lent (now first) (now next) ⌝ }
+    ensures { λ _. ⌜ Gathered (now (parent .entry)) n 0 (now (first .exit)) (now (next .exit)) × Lent (now (first .exit)) (now (next .exit)) ⌝ }
 {
     clear(n, first, next);
     let mut i = n;

@@ -1,8 +1,11 @@
 // One key a row stands for the first three numbers of its record: two brothers are compared without writing their records out.
+use limits::most::MOST_NODES;
 ghost use mathlib.Core.Path.{_≡_};
 ghost use Prim.Native.Nat.{_<_};
-ghost use lib.ListN.{length, getD};
 ghost use Rattle.order.specs.Keys.{threeBytes, keyOf};
+
+// A key for each node.
+pub type Keys = [u64; MOST_NODES];
 
 // The bytes of x, filled up to three, as one number: it compares as the bytes do, where x itself would not (128 is written 80 01, 255 is FF 01, and
 // 256 is 80 02).
@@ -49,12 +52,4 @@ pub fn key_of(l: u32, m: u8, c: u16) -> u64
     let a = bytes_of(wide(l));
     let b = wide8(m);
     (a * 256 + b) * 16777216 + bytes_of(wide16(c))
-}
-
-// The key of row i.
-pub fn key_at(t: &[u64], i: usize) -> u64
-    requires { ⌜ i < length (now t) ⌝ }
-    ensures { λ r. ⌜ r ≡ getD (now (t .entry)) i 0 ⌝ }
-{
-    t[i]
 }

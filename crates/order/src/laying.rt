@@ -1,12 +1,15 @@
 // A tree of links laid out as rows in image order.
+use rows::Codes;
+use rows::Links;
+use rows::Marks;
 use rows::NO_ROW;
-use rows::link;
+use rows::Starts;
 use rows::wide;
 ghost use mathlib.Core.Path.{_≡_};
 ghost use lib.ListN.{getD};
 ghost use Rattle.rows.specs.Rows.{Rows, treeRows, tagAt, mapT};
 ghost use Rattle.order.specs.Links.{forestAt, Listed};
-ghost use Rattle.order.specs.Contract.{LaySpace, Tagged};
+ghost use Rattle.order.specs.Contract.{Room, Tagged};
 
 // The parent of the top, as a row number.
 const TOP: usize = NO_ROW as usize;
@@ -16,29 +19,30 @@ const TOP: usize = NO_ROW as usize;
 // its number of children is that of its earlier brothers.
 pub fn lay(
     code: &[u32],
-    mark: &[u8],
-    first: &[u16],
-    next: &[u16],
+    mark: &Marks,
+    first: &Starts,
+    next: &Starts,
     n: usize,
-    out_code: &mut [u32],
-    out_mark: &mut [u8],
-    kids: &mut [u16],
-    span: &mut [u16],
-    up: &mut [u16],
+    out_code: &mut Codes,
+    out_mark: &mut Marks,
+    kids: &mut Links,
+    span: &mut Links,
+    up: &mut Links,
 )
     requires { ⌜ (
         Tagged (now code) (now mark) n × Listed n (now first) (now next)
-        × LaySpace n (now first) (now next) (now «out_code») (now «out_mark») (now kids) (now span) (now up)
+        × Room (now «out_code») (now «out_mark») (now kids) (now span) (now up)
         ) ⌝ }
     ensures { λ _. ⌜ (
-        let c = now («out_code» .exit) in let m = now («out_mark» .exit) in let s = now (span .exit) in let fs = now (first .entry) in
-        Rows c m (now (kids .exit)) s (now (up .exit)) n
-        × (treeRows c m s n ≡ mapT (tagAt (now (code .entry)) (now (mark .entry))) (forestAt n fs (now (next .entry)) (getD fs n 0)))
+        let c = now («out_code» .exit) in let m = now («out_mark» .exit) in let k = now (kids .exit) in let s = now (span .exit) in
+        let u = now (up .exit) in let fs = now (first .entry) in
+        Rows c m k s u n × (treeRows c m s n ≡ mapT (tagAt (now (code .entry)) (now (mark .entry))) (forestAt n fs (now (next .entry)) (getD fs n 0)))
+        × Room c m k s u
         ) ⌝ }
 {
     let mut at: usize = 0;
     let mut u = TOP;
-    let mut x = link(first, n);
+    let mut x = wide(first[n]);
     // how many children of row u are laid out
     let mut k: u16 = 0;
     loop {
@@ -48,7 +52,7 @@ pub fn lay(
             kids[at] = k;
             span[at] = x as u16;
             up[at] = u as u16;
-            x = link(first, x);
+            x = wide(first[x]);
             u = at;
             k = 0;
             at += 1;
@@ -57,7 +61,7 @@ pub fn lay(
         if u == TOP {
             return;
         }
-        x = link(next, wide(span[u]));
+        x = wide(next[wide(span[u])]);
         span[u] = (at - u) as u16;
         let before = kids[u];
         kids[u] = k;

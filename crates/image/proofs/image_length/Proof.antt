@@ -19,12 +19,12 @@ abbrev μ-loop : tie.MeasureT-loop
 
 loop-holds : tie.Need-loop-holds Inv-loop μ-loop
 loop-holds c =
-    let a = c .before .before .before .before .args in
+    let a = c .before .args in
     (omega arith, omega (arith, num-short 4 (a .n) (omega arith)), omega (arith, length-listing (a .code .now) (a .mark .now) (a .kids .now) (a .n)))
 
 loop-again : tie.Need-loop-again Inv-loop μ-loop
 loop-again c =
-    let a = c .before .before .before .before .before .before .before .before .before .before .args in (
+    let a = c .before .before .before .before .before .before .before .args in (
       omega arith,
       omega arith,
       omega (arith, length-next (a .code .now) (a .mark .now) (a .kids .now) (a .n) _ (c .before .before .before .before .loop-test .taken)),
@@ -32,7 +32,7 @@ loop-again c =
 
 returns : tie.Need-returns Inv-loop μ-loop
 returns c =
-    let a = c .before .before .before .before .before .before .args in
+    let a = c .before .before .before .args in
     omega (arith, length-none (a .code .now) (a .mark .now) (a .kids .now) (a .n) _ (c .loop-test .left))
 
 pub image-length-spec : {M : Type 1} → statement M

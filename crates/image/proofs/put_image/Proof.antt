@@ -21,14 +21,14 @@ abbrev μ-loop : tie.MeasureT-loop
 
 put-number-requires : tie.Need-put-number-requires Inv-loop μ-loop
 put-number-requires c κs =
-    let a = c .before .before .before .before .before .args in omega (arith, length-listing (a .code .now) (a .mark .now) (a .kids .now) (a .n))
+    let a = c .before .before .args in omega (arith, length-listing (a .code .now) (a .mark .now) (a .kids .now) (a .n))
 
 loop-holds : tie.Need-loop-holds Inv-loop μ-loop
 loop-holds c = (omega arith, refl, refl, refl)
 
 put-head-requires : tie.Need-put-head-requires Inv-loop μ-loop
 put-head-requires c κs =
-    let a = c .before .before .before .before .before .before .before .before .before .before .before .before .before .before .args in
+    let a = c .before .before .before .before .before .before .before .before .before .before .before .args in
     omega (
       arith,
       length-listing (a .code .now) (a .mark .now) (a .kids .now) (a .n),
@@ -37,7 +37,7 @@ put-head-requires c κs =
 
 loop-again : tie.Need-loop-again Inv-loop μ-loop
 loop-again c =
-    let a = c .before .before .before .before .before .before .before .before .before .before .before .before .before .before .before .before .before .args in
+    let a = c .before .before .before .before .before .before .before .before .before .before .before .before .before .before .args in
     let l = c .before .before .before .before .before .before .before .before .loop in
     let t = c .before .before .before .before .before .before .before .loop-test .taken in
     let p = c .before .before .put-head in
@@ -46,7 +46,7 @@ loop-again c =
 
 returns : tie.Need-returns Inv-loop μ-loop
 returns c =
-    let a = c .before .before .before .before .before .before .before .before .before .before .args in
+    let a = c .before .before .before .before .before .before .before .args in
     let p = c .before .before .before .before .put-number in
     let l = c .before .loop in
     let e = c .loop-test .left in

@@ -1,11 +1,11 @@
 use borrow.Author.Needs.{needs}
 use Prim.Native.Nat.{suc, _-_, _≤_}
-use mathlib.Core.Path.{_≡_, refl, ap, _∙_}
+use mathlib.Core.Path.{_≡_, ap, _∙_}
 use native.Mathlib.Omega.{arith}
-use lib.ListN.{length, length-set}
+use Rattle.order.specs.Contract.{Lent}
 use Rattle.order.specs.Links.{slotOf}
 use Rattle.order.specs.Gathering.{Gathered}
-use Rattle.order.proofs.Gathering.{gathered-none, gathered-turn}
+use Rattle.order.proofs.Gathering.{lent-set, gathered-none, gathered-turn}
 use Rattle.order.proofs.children.gather.Statement.{statement}
 use Rattle.order.proofs.children.gather.Tie as tie
 use Rattle.order.proofs.children.gather.Reads as reads
@@ -15,28 +15,29 @@ use Rattle.order.proofs.children.slot.Reads as slot-reads
 use Rattle.rows.proofs.link.Reads as link-reads
 
 abbrev Inv-loop : tie.InvT-loop
-Inv-loop parent n first₀ next₀ i₀ first next i = (i ≤ n) × (length first ≡ length first₀) × (length next ≡ length next₀) × Gathered parent n i first next
+Inv-loop parent n first₀ next₀ i₀ first next i = (i ≤ n) × Gathered parent n i first next × Lent first next
 
 abbrev μ-loop : tie.MeasureT-loop
 μ-loop parent n first₀ next₀ i₀ first next i = i
 
+clear-requires : tie.Need-clear-requires Inv-loop μ-loop
+clear-requires c κs = let p = c .before .before .before .pre in (p .0 .few, p .1)
+
 loop-holds : tie.Need-loop-holds Inv-loop μ-loop
-loop-holds c = let k = c .before .before .before .before in (omega arith, refl, refl, gathered-none _ _ (k .clear .last .1 .0) (k .clear .last .1 .1 .0) (omega (arith, k .before .before .before .before .before .before .pre .few)) (k .clear .ensures))
+loop-holds c =
+    let k = c .clear .ensures in (omega arith, gathered-none (c .before .before .before .before .pre .0) k, k .1)
 
 loop-again : tie.Need-loop-again Inv-loop μ-loop
 loop-again c =
-    let p = c .before in let v = p .before .before .before .loop in let k = p .before .before .before .before .before .before .before .before .clear in let s = p .before .before .before .before .before .before .before .before .before .before .before .before .before .before in
-    let z : suc (v .i - 1) ≡ v .i = omega arith in (
+    let p = c .before in let k = p .before in let v = k .before .before .loop in let L = v .inv .2 in let z : suc (v .i - 1) ≡ v .i = omega arith in (
       omega arith,
-      length-set (v .first) _ _ ∙ v .inv .1,
-      length-set (v .next) _ _ ∙ v .inv .2,
-      gathered-turn (s .args .parent .now) (s .args .n) (v .i - 1) (v .first) (v .next) (omega (arith, s .pre .few)) (s .pre .known) (omega arith)
-          (omega (arith, v .inv .1, k .kept .1 .0, s .pre .firsts)) (omega (arith, v .inv .2, k .kept .1 .1 .0, s .pre .nexts)) (rw z (v .inv .3))
-          (p .slot .result) (p .slot .ensures .0 ∙ ap (slotOf (s .args .n)) (p .before .link .ensures .0)),
+      gathered-turn (k .before .before .before .before .before .before .before .pre .0) L (v .i - 1) (omega arith) (rw z (v .inv .1))
+          (p .slot .ensures .0 ∙ ap (slotOf _) (k .link .ensures .0)),
+      lent-set L _ _ _ _,
     )
 
 returns : tie.Need-returns Inv-loop μ-loop
-returns c = let v = c .before .loop in let z : v .i ≡ 0 = omega arith in rw z at (v .inv .3)
+returns c = let v = c .before .loop in let z : v .i ≡ 0 = omega arith in (rw z at (v .inv .1), v .inv .2)
 
 pub gather-spec : {M : Type 1} → statement M
 gather-spec =
@@ -44,7 +45,7 @@ gather-spec =
     (tie.spec
     Inv-loop
     μ-loop
-    (λ c κs. search needs)
+    clear-requires
     loop-holds
     (λ c. search needs)
     (λ c κs. search needs)
@@ -58,6 +59,4 @@ gather-spec =
     (λ c. search needs)
     (λ c. search needs)
     loop-again
-    (λ c. search needs)
-    (λ c. search needs)
     returns)

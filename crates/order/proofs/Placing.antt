@@ -6,9 +6,10 @@ use mathlib.Core.Bool.{true, false}
 use Prim.Native.Nat.{ℕ, suc, _+_, _-_, _<_, _≤_}
 use native.Mathlib.Omega.{arith}
 use native.Mathlib.Decide.{ℕ-discrete}
-use lib.ListN.{length, getD, set, length-set}
+use lib.ListN.{getD, set, length-set}
 use lib.Seq.{getD-set-same, getD-set-other}
 use borrow.Author.Tests.{eq-eqb, ne-eqb}
+use Rattle.meaning.specs.Limits.{mostNodes}
 use Rattle.meaning.specs.Tree.{Forest, bare, tree, size}
 use Rattle.rows.specs.Rows.{noRow, width, tagAt}
 use Rattle.rows.specs.Table.{tableShape, tableTree, TreeTable, ParentsFirst}
@@ -16,6 +17,7 @@ use Rattle.rows.proofs.Rows.{lab-code, mark-code}
 use Rattle.order.specs.Keys.{keyOf}
 use Rattle.order.specs.Links.{slotOf, Known, forestAt, Linked, In, Apart, placeBy, orderedBy, Ready, PutAmong}
 use Rattle.order.specs.Gathering.{Cleared}
+use Rattle.order.specs.Contract.{Lent}
 use Rattle.order.specs.Sorting.{belowFrom, Sortable, Sorting, Sorted}
 use Rattle.order.proofs.Links.{slot-row, slot-top, slot-le, SameSlot, same-slot, read-is, finite-of}
 use Rattle.order.proofs.Inserting.{kept, in-orderedBy, size-orderedBy, width-orderedBy, apart-both, order-agree}
@@ -43,22 +45,19 @@ few {parent} {n = n} T O b k x e kx =
     omega (arith, few-below parent n (known O) s b k x e kx, ap size (whole-below parent n (known O) s), shape-all T .0)
 
 -- ------------------------------------------------------------------ the loop from the last row to the first
-pub sorting-none : {parent code mark : List ℕ} {n : ℕ} {fs ns key : List ℕ} → Sortable parent code mark n fs ns key → (fs′ ns′ : List ℕ) → Cleared (n + 1) fs′ ns′
-    → Sorting parent code mark n n fs′ ns′ key
+pub sorting-none : {parent code mark : List ℕ} {n : ℕ} {fs ns key fs′ ns′ : List ℕ} → Sortable parent code mark n fs ns key → Cleared (n + 1) fs′ ns′ × Lent fs′ ns′
+    → Sortable parent code mark n fs′ ns′ key × Sorting parent code mark n n fs′ ns′ key
 unfolding belowFrom orderedBy
-sorting-none {n = n} w fs′ ns′ h =
+sorting-none {n = n} {fs′ = fs′} {ns′ = ns′} w (h, L) =
     let z : n - n ≡ 0 = omega arith in
-    let at : (p : ℕ) → (getD fs′ (slotOf n p) 0 ≡ noRow) × (getD ns′ (slotOf n p) 0 ≡ 0) = λ p. h (slotOf n p) (let s = slot-le n p in omega arith) in
-    record {
-      lists = λ p k. rw z (omega (arith, at p .0, w .table .few));
-      counts = λ p k. rw z (at p .1);
-      keys = λ i a b. absurd (omega arith);
-    }
-
-pub sortable-kept : {parent code mark : List ℕ} {n : ℕ} {fs ns key : List ℕ} → Sortable parent code mark n fs ns key → (fs′ ns′ key′ : List ℕ)
-    → length fs′ ≡ length fs → length ns′ ≡ length ns → length key′ ≡ length key → Sortable parent code mark n fs′ ns′ key′
-sortable-kept w fs′ ns′ key′ ef en ek =
-    record { table = w .table; order = w .order; firsts = rw ef (w .firsts); nexts = rw en (w .nexts); keys = rw ek (w .keys) }
+    let at : (p : ℕ) → (getD fs′ (slotOf n p) 0 ≡ noRow) × (getD ns′ (slotOf n p) 0 ≡ 0) = λ p. h (slotOf n p) (omega (arith, slot-le n p)) in (
+      record { table = w .table; order = w .order; lent = L; keys = w .keys },
+      record {
+        lists = λ p k. rw z (omega (arith, at p .0, w .table .few));
+        counts = λ p k. rw z (at p .1);
+        keys = λ i a b. absurd (omega arith);
+      },
+    )
 
 -- row j is reached, and s is the slot of its parent
 module _ {parent code mark : List ℕ} {n : ℕ} {fs ns key : List ℕ} (W : Sortable parent code mark n fs ns key)
@@ -84,8 +83,8 @@ module _ {parent code mark : List ℕ} {n : ℕ} {fs ns key : List ℕ} (W : Sor
   slot-off x y (inl u) a b e = let z = slot-row n x (omega arith) in omega arith
   slot-off x y (inr u) a b e = let z = slot-top n x (omega (arith, T .few)) in omega arith
 
-  slot-fits : (s < length fs) × (s < length ns)
-  slot-fits = let z = slot-le n p in (omega (arith, W .firsts), omega (arith, W .nexts))
+  slot-fits : s ≤ mostNodes
+  slot-fits = omega (arith, slot-le n p, T .few)
 
   one-more : n - j ≡ suc (n - suc j)
   one-more = omega arith
@@ -142,10 +141,10 @@ module _ {parent code mark : List ℕ} {n : ℕ} {fs ns key : List ℕ} (W : Sor
     r-is : forestAt n fs ns h ≡ r
     r-is = read-is n fs ns h r linked-r small-r
 
-    pub row-ready : h < 65536 → Ready n fs ns (set key j v) j h
+    pub row-ready : h < 65536 → Ready n fs ns j h
     row-ready low = record {
       few = T .few;
-      wide = record { firsts = omega (arith, W .firsts); nexts = omega (arith, W .nexts); keys = rw (length-set key j v) (W .keys) };
+      nexts = omega (arith, W .lent .nexts, T .few);
       inside = l;
       low = low;
       kids = finite-of n fs ns (getD fs j 0) k linked-k small-k;
@@ -169,7 +168,7 @@ module _ {parent code mark : List ℕ} {n : ℕ} {fs ns key : List ℕ} (W : Sor
       pub count-fits : getD ns′ s 0 + 1 < 65536
       count-fits = omega (arith, count-is, width-size (from (suc j) p), few T (W .order) (suc j) (n - suc j) p (omega arith) (up (suc j) p (omega arith) kp), T .few)
 
-      module _ (ev : v ≡ keyOf (getD code j 0) (getD mark j 0) (getD ns j 0)) (len : length ns′ ≡ length ns) where
+      module _ (ev : v ≡ keyOf (getD code j 0) (getD mark j 0) (getD ns j 0)) where
         abbrev fs″ : List ℕ
         fs″ = set fs s f
 
@@ -203,27 +202,32 @@ module _ {parent code mark : List ℕ} {n : ℕ} {fs ns key : List ℕ} (W : Sor
             (rw (same-order x) (S .lists x kx′))
             )
 
-        pub sorting-turn : Sorting parent code mark n j (set fs s f) (set ns′ s (getD ns′ s 0 + 1)) (set key j v)
-        sorting-turn = record {
-          lists = λ x kx. list x kx (side x kx);
-          counts = λ x kx. count x kx (side x kx);
-          keys = λ i a b. keyed i a b (ℕ-discrete i j);
-        }
+        pub sorting-turn : Sortable parent code mark n (set fs s f) (set ns′ s (getD ns′ s 0 + 1)) (set key j v)
+            × Sorting parent code mark n j (set fs s f) (set ns′ s (getD ns′ s 0 + 1)) (set key j v)
+        sorting-turn = (
+          record {
+            table = T;
+            order = W .order;
+            lent = record { firsts = length-set fs s f ∙ W .lent .firsts; nexts = length-set ns′ s (getD ns′ s 0 + 1) ∙ P .long ∙ W .lent .nexts };
+            keys = length-set key j v ∙ W .keys;
+          },
+          record { lists = λ x kx. list x kx (side x kx); counts = λ x kx. count x kx (side x kx); keys = λ i a b. keyed i a b (ℕ-discrete i j) },
+        )
           where
             side : (x : ℕ) → Known j x → SameSlot n x p s
             side x kx = same-slot n x p s (omega (arith, T .few)) (up n x (omega arith) kx) (up n p (omega arith) kp) es
 
             list : (x : ℕ) → Known j x → SameSlot n x p s → Linked n fs″ ns″ (getD fs″ (slotOf n x) 0) (orderedBy key′ (from j x))
-            list x kx (inl (e, u)) = rw (u, e, getD-set-same fs s f 0 (slot-fits .0)) placed
+            list x kx (inl (e, u)) = rw (u, e, getD-set-same fs s f 0 (omega (arith, slot-fits, W .lent .firsts))) placed
             list x kx (inr (d, u)) = rw (getD-set-other fs s (slotOf n x) f 0 u) (others x kx d)
 
             count : (x : ℕ) → Known j x → SameSlot n x p s → getD ns″ (slotOf n x) 0 ≡ width (from j x)
-            count x kx (inl (e, u)) = rw (u, e, getD-set-same ns′ s (getD ns′ s 0 + 1) 0 (omega (arith, slot-fits .1)), list-open) (omega (arith, count-is))
+            count x kx (inl (e, u)) = rw (u, e, getD-set-same ns′ s (getD ns′ s 0 + 1) 0 (omega (arith, slot-fits, P .long, W .lent .nexts)), list-open) (omega (arith, count-is))
             count x kx (inr (d, u)) =
                 rw (getD-set-other ns′ s (slotOf n x) (getD ns′ s 0 + 1) 0 u, list-same x d) (same-slots x kx ∙ S .counts x (up (suc j) x (omega arith) kx))
 
             keyed : (i : ℕ) → j ≤ i → i < n → Dec (i ≡ j) → getD key′ i 0 ≡ keyOf (getD code i 0) (getD mark i 0) (width (from (suc i) i))
-            keyed i a b (yes e) = rw e (getD-set-same key j v 0 (omega (arith, W .keys)) ∙ ev ∙ ap (keyOf (getD code j 0) (getD mark j 0)) count-here)
+            keyed i a b (yes e) = rw e (getD-set-same key j v 0 (omega (arith, W .keys, T .few)) ∙ ev ∙ ap (keyOf (getD code j 0) (getD mark j 0)) count-here)
             keyed i a b (no d) = getD-set-other key j i v 0 d ∙ S .keys i (omega arith) b
 
 -- ------------------------------------------------------------------ the whole tree

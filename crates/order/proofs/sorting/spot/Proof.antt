@@ -4,12 +4,12 @@ use lib.ListN.{getD}
 use Rattle.meaning.specs.Tree.{size}
 use Rattle.order.specs.Links.{Finite, forestAt, spotOf, spotAt}
 use Rattle.order.proofs.Links.{opens, goes-along, spot-end, spot-here, spot-on}
-use Rattle.order.proofs.brothers.spot.Statement.{statement}
-use Rattle.order.proofs.brothers.spot.Tie as tie
-use Rattle.order.proofs.brothers.spot.Reads as reads
-use Rattle.order.proofs.brothers.spot.Lts as lts
-use Rattle.order.proofs.brothers.goes_first.Reads as goes-first-reads
-use Rattle.rows.proofs.link.Reads as link-reads
+use Rattle.order.proofs.sorting.spot.Statement.{statement}
+use Rattle.order.proofs.sorting.spot.Tie as tie
+use Rattle.order.proofs.sorting.spot.Reads as reads
+use Rattle.order.proofs.sorting.spot.Lts as lts
+use Rattle.order.proofs.sorting.goes_first.Reads as goes-first-reads
+use Rattle.rows.proofs.wide.Reads as wide-reads
 
 abbrev Inv-loop : tie.InvT-loop
 Inv-loop first next key n c q p₀ at₀ p at =
@@ -19,11 +19,11 @@ abbrev μ-loop : tie.MeasureT-loop
 μ-loop first next key n c q p₀ at₀ p at = size (forestAt n first next at)
 
 loop-holds : tie.Need-loop-holds Inv-loop μ-loop
-loop-holds c = (c .before .before .before .pre .3, unfold spotAt in refl)
+loop-holds c = (c .pre .3, unfold spotAt in refl)
 
 goes-first-requires : tie.Need-goes-first-requires Inv-loop μ-loop
 goes-first-requires c κs =
-    let p = c .before .before .before .before .before .pre in (p .0, p .1, c .loop-test .taken, p .2, opens (c .before .loop .inv .0) (c .loop-test .taken) .down)
+    let p = c .before .before .pre in (p .0, p .1, c .loop-test .taken, p .2, opens (c .before .loop .inv .0) (c .loop-test .taken) .down)
 
 returns : tie.Need-returns Inv-loop μ-loop
 returns c =
@@ -31,13 +31,13 @@ returns c =
     sym (v .1 ∙ spot-here _ _ _ _ _ _ _ (v .0) (i .loop-test .taken) (g .goes-first .ensures) (c .if1 .taken))
 
 loop-less : tie.Need-loop-less Inv-loop μ-loop
-loop-less c = let i = c .before .before .before in goes-along (i .before .loop .inv .0) (i .loop-test .taken) (c .link .ensures .0) .1
+loop-less c = let i = c .before .before .before .before in goes-along (i .before .loop .inv .0) (i .loop-test .taken) (c .wide .ensures .0) .1
 
 loop-again : tie.Need-loop-again Inv-loop μ-loop
 loop-again c =
-    let e = c .before in let g = e .before in let i = g .before in let v = i .before .loop .inv in (
-      goes-along (v .0) (i .loop-test .taken) (c .link .ensures .0) .0,
-      v .1 ∙ spot-on _ _ _ _ _ _ _ (v .0) (i .loop-test .taken) (g .goes-first .ensures) (e .if1 .left) (c .link .ensures .0),
+    let e = c .before .before in let g = e .before in let i = g .before in let v = i .before .loop .inv in (
+      goes-along (v .0) (i .loop-test .taken) (c .wide .ensures .0) .0,
+      v .1 ∙ spot-on _ _ _ _ _ _ _ (v .0) (i .loop-test .taken) (g .goes-first .ensures) (e .if1 .left) (c .wide .ensures .0),
     )
 
 returns-2 : tie.Need-returns-2 Inv-loop μ-loop
@@ -52,6 +52,8 @@ spot-spec =
     loop-holds
     goes-first-requires
     returns
+    (λ c. search needs)
+    (λ c. search needs)
     (λ c κs. search needs)
     loop-less
     loop-again
