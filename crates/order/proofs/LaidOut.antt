@@ -10,10 +10,10 @@ use lib.Seq.{getD-set-same, getD-set-other}
 use Rattle.meaning.specs.Limits.{mostNodes}
 use Rattle.meaning.specs.Number.{largestLabel}
 use Rattle.meaning.specs.Tree.{Forest, bare, tree, size}
-use Rattle.rows.specs.Rows.{noRow, tagAt, shape, mapT, treeRows, Holds, width, Counted, Hung, Rows}
+use Rattle.rows.specs.Rows.{noRow, tagAt, shape, mapT, treeRows, Holds, width, Counted, Hung, Rows, Room}
 use Rattle.rows.proofs.Rows.{holds-is}
 use Rattle.order.specs.Links.{forestAt, Linked, Listed}
-use Rattle.order.specs.Contract.{Room, Tagged}
+use Rattle.order.specs.Contract.{Tagged}
 
 -- the five lists of the rows
 pub record Out : Type 0 where

@@ -11,14 +11,6 @@ pub record Lent (first next : List ℕ) : Type 0 where
   pub firsts : length first ≡ suc mostNodes
   pub nexts : length next ≡ suc mostNodes
 
--- room for the rows of any tree
-pub record Room (code mark kids span up : List ℕ) : Type 0 where
-  pub codes : length code ≡ mostNodes
-  pub marks : length mark ≡ mostNodes
-  pub counts : length kids ≡ mostNodes
-  pub spans : length span ≡ mostNodes
-  pub ups : length up ≡ mostNodes
-
 -- n rows that bear label codes and marks
 pub record Tagged (code mark : List ℕ) (n : ℕ) : Type 0 where
   pub few : n ≤ mostNodes

@@ -7,9 +7,9 @@ use rows::Starts;
 use rows::wide;
 ghost use mathlib.Core.Path.{_≡_};
 ghost use lib.ListN.{getD};
-ghost use Rattle.rows.specs.Rows.{Rows, treeRows, tagAt, mapT};
+ghost use Rattle.rows.specs.Rows.{Rows, treeRows, tagAt, mapT, Room};
 ghost use Rattle.order.specs.Links.{forestAt, Listed};
-ghost use Rattle.order.specs.Contract.{Room, Tagged};
+ghost use Rattle.order.specs.Contract.{Tagged};
 
 // The parent of the top, as a row number.
 const TOP: usize = NO_ROW as usize;

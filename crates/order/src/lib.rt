@@ -17,9 +17,9 @@ ghost use mathlib.Core.Path.{_≡_};
 ghost use lib.ListN.{length};
 ghost use Rattle.meaning.specs.Limits.{mostNodes};
 ghost use Rattle.meaning.specs.Image.{ordered};
-ghost use Rattle.rows.specs.Rows.{Rows, treeRows};
+ghost use Rattle.rows.specs.Rows.{Rows, treeRows, Room};
 ghost use Rattle.rows.specs.Table.{TreeTable, ParentsFirst, tableTree};
-ghost use Rattle.order.specs.Contract.{Lent, Room};
+ghost use Rattle.order.specs.Contract.{Lent};
 
 // The tree of the first n rows of a table as rows in image order. parent[i] is the row of i's parent, which stands before row i, and NO_ROW at the top,
 // row 0; the tables from `first` to `key` are lent to work in, and what they are left with means nothing.

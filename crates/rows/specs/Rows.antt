@@ -105,3 +105,11 @@ pub record Rows (code mark kids span up : List ℕ) (n : ℕ) : Type 0 where
   pub counted : Counted kids (shape span n)
   pub hung : Hung up noRow (shape span n)
   pub single : width (shape span n) ≤ 1
+
+-- tables that have room for the rows of any tree query
+pub record Room (code mark kids span up : List ℕ) : Type 0 where
+  pub codes : length code ≡ mostNodes
+  pub marks : length mark ≡ mostNodes
+  pub counts : length kids ≡ mostNodes
+  pub spans : length span ≡ mostNodes
+  pub ups : length up ≡ mostNodes

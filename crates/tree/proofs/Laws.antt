@@ -1,5 +1,5 @@
 -- A table that is a tree query, marked at s and d, may be laid out, and its tree is the plain tree of the query.
--- Rows that are a tree may be folded and put in order. What is lent is as long as it was.
+-- Rows that are a tree may be folded and put in order.
 use mathlib.Core.Path.{_≡_, refl, sym, ap, subst, _∙_}
 use mathlib.Core.Bool.{Bool, true, false}
 use mathlib.Core.List.{List}
@@ -19,11 +19,11 @@ use Rattle.theory.proofs.Look.{never}
 use Rattle.rows.specs.Rows.{Rows, treeRows, mapT}
 use Rattle.rows.specs.Table.{table, query, queryOf, QueryTable, TreeTable, tableTree, tableShape, grown, childrenOf}
 use Rattle.rows.proofs.Table.{live-below}
-use Rattle.order.specs.Contract.{LaySpace}
 use Rattle.order.proofs.QueryTable.{table-tree, table-of-tree}
 use Rattle.order.proofs.RowsTable.{rows-tree, rows-table, rows-first}
+use Rattle.onto.specs.Left.{nodes}
 use Rattle.fold.specs.Kept.{RowsFolded, RowsKept}
-use Rattle.tree.specs.Tables.{Lent, Room, Ends, Sortable}
+use Rattle.tree.specs.Tables.{Ends, Sortable}
 
 -- ------------------------------------------------------------------ marks
 mark-small : (a b : Bool) → markCode a b ≤ 3
@@ -102,29 +102,8 @@ module _ (code mark kids span up : List ℕ) (n : ℕ) (R : Rows code mark kids 
   rows-sortable = record { table = rows-table code mark kids span up n R; first = rows-first code mark kids span up n R }
 
 -- what folding left, moved together, is the minimal tree but for the order of brothers
-pub folded-least : (code mark span up : List ℕ) (n : ℕ) (up′ code′ mark′ parent : List ℕ) (m : ℕ) → RowsFolded code mark span up n up′
-    → RowsKept code mark span up′ n code′ mark′ parent m
+pub folded-least : (code mark span : List ℕ) (n : ℕ) (left code′ mark′ parent : List ℕ) (m : ℕ) → RowsFolded (nodes code mark span) n left
+    → RowsKept code left span n code′ mark′ parent m
     → ordered (tableTree parent code′ mark′ m) ≡ ordered (minimal (treeRows code mark span n))
-folded-least code mark span up n up′ code′ mark′ parent m F K =
+folded-least code mark span n left code′ mark′ parent m F K =
     ap ordered (rows-tree code′ mark′ (K .kids) (K .spans) parent m (K .rows) ∙ K .tree) ∙ F .least
-
--- ------------------------------------------------------------------ what is lent
--- it is enough to lay n rows out
-pub lay-space : {n : ℕ} {first next code mark kids span up : List ℕ} → n ≤ mostNodes → Lent first next
-    → Room code mark kids span up → LaySpace n first next code mark kids span up
-lay-space few l r = record {
-  firsts = omega arith;
-  nexts = omega arith;
-  codes = omega arith;
-  marks = omega arith;
-  counts = omega arith;
-  spans = omega arith;
-  ups = omega arith;
-}
-
-pub still-lent : {first next first′ next′ : List ℕ} → Lent first next → length first′ ≡ length first → length next′ ≡ length next → Lent first′ next′
-still-lent l a b = record { firsts = a ∙ l .firsts; nexts = b ∙ l .nexts }
-
-pub still-room : {code mark kids span up code′ mark′ kids′ span′ up′ : List ℕ} → Room code mark kids span up → length code′ ≡ length code
-    → length mark′ ≡ length mark → length kids′ ≡ length kids → length span′ ≡ length span → length up′ ≡ length up → Room code′ mark′ kids′ span′ up′
-still-room r a b c d e = record { codes = a ∙ r .codes; marks = b ∙ r .marks; counts = c ∙ r .counts; spans = d ∙ r .spans; ups = e ∙ r .ups }

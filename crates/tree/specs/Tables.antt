@@ -1,29 +1,14 @@
 -- The tree of a table that is a tree query, as rows in image order: what is lent, and what the rows then are.
 use mathlib.Core.Path.{_≡_}
 use mathlib.Core.List.{List}
-use Prim.Native.Nat.{ℕ, suc, _<_}
+use Prim.Native.Nat.{ℕ, _<_}
 use native.Mathlib.Decide.{ℕ-discrete}
-use lib.ListN.{length, getD}
+use lib.ListN.{getD}
 use Rattle.meaning.specs.Basics.{is}
-use Rattle.meaning.specs.Limits.{mostNodes}
 use Rattle.meaning.specs.Tree.{Forest, Tag}
 use Rattle.meaning.specs.Image.{markCode}
-use Rattle.rows.specs.Rows.{Rows, treeRows}
+use Rattle.rows.specs.Rows.{Rows, Room, treeRows}
 use Rattle.rows.specs.Table.{TreeTable, ParentsFirst}
-
--- ------------------------------------------------------------------ what is lent
--- tables to work in: the lists of children, with one more for the top's
-pub record Lent (first next : List ℕ) : Type 0 where
-  pub firsts : length first ≡ suc mostNodes
-  pub nexts : length next ≡ suc mostNodes
-
--- there is room for the rows of any tree query
-pub record Room (code mark kids span up : List ℕ) : Type 0 where
-  pub codes : length code ≡ mostNodes
-  pub marks : length mark ≡ mostNodes
-  pub counts : length kids ≡ mostNodes
-  pub spans : length span ≡ mostNodes
-  pub ups : length up ≡ mostNodes
 
 -- ------------------------------------------------------------------ what the rows then are
 -- "mark (0 none, 1 s, 2 d, 3 both)", of the first n rows

@@ -1,6 +1,10 @@
 // From a table that is a tree query to its rows in image order: the plain tree, and the minimal tree. No rows: empty.
 // What a caller has read, in whatever language, it puts into such a table. The tables to work in are lent, so that a caller may use them before.
 use limits::most::MOST_NODES;
+use rows::Codes;
+use rows::Links;
+use rows::Marks;
+use rows::Starts;
 ghost use mathlib.Core.Path.{_≡_};
 ghost use mathlib.Core.List.{List};
 ghost use Prim.Native.Nat.{ℕ, suc, _<_, _≤_};
@@ -9,25 +13,14 @@ ghost use Rattle.meaning.specs.Limits.{mostNodes};
 ghost use Rattle.meaning.specs.Tree.{plainTree};
 ghost use Rattle.meaning.specs.Folding.{minimal};
 ghost use Rattle.meaning.specs.Image.{ordered, minimalTree};
-ghost use Rattle.rows.specs.Rows.{Rows, treeRows};
+ghost use Rattle.rows.specs.Rows.{Rows, Room, treeRows};
 ghost use Rattle.rows.specs.Table.{QueryTable, queryOf, tableTree};
-ghost use Rattle.tree.specs.Tables.{Lent, Room, Ends, RowsAre, Sortable};
-
-// A number of sixteen bits for each node: links, spans, numbers of children.
-pub type Links = [u16; MOST_NODES];
-
-// The same, and one more for the top, which has no parent.
-pub type Starts = [u16; MOST_NODES + 1];
-
-// A label code for each node.
-pub type Codes = [u32; MOST_NODES];
-
-// A mark for each node.
-pub type Marks = [u8; MOST_NODES];
+ghost use Rattle.order.specs.Contract.{Lent};
+ghost use Rattle.tree.specs.Tables.{Ends, RowsAre, Sortable};
 
 // Marks s and d among the first n nodes, which bear no mark: bit 0 is s, bit 1 is d.
-fn mark_ends(mark: &mut [u8], n: usize, s: usize, d: usize)
-    requires { ⌜ (n ≤ length (now mark)) × (0 < n → (s < n) × (d < n)) × ((i : ℕ) → i < n → getD (now mark) i 0 ≡ 0) ⌝ }
+fn mark_ends(mark: &mut Marks, n: usize, s: usize, d: usize)
+    requires { ⌜ (n ≤ mostNodes) × (n ≤ length (now mark)) × (0 < n → (s < n) × (d < n)) × ((i : ℕ) → i < n → getD (now mark) i 0 ≡ 0) ⌝ }
     ensures { λ _. ⌜ Ends (now (mark .exit)) n s d ⌝ }
 {
     if n == 0 {
@@ -116,7 +109,7 @@ fn folded_rows(
     code: &mut Codes,
     mark: &mut Marks,
     span: &Links,
-    up: &mut Links,
+    up: &Links,
     n: usize,
     child: &mut Starts,
     parent: &mut Links,
@@ -127,10 +120,9 @@ fn folded_rows(
     ensures { λ r. ⌜ Sortable (now (parent .exit)) (now (code .exit)) (now (mark .exit)) r
         × (ordered (tableTree (now (parent .exit)) (now (code .exit)) (now (mark .exit)) r)
         ≡ ordered (minimal (treeRows (now (code .entry)) (now (mark .entry)) (now (span .entry)) n)))
-        × (length (now (up .exit)) ≡ length (now (up .entry)))
         × (length (now (child .exit)) ≡ suc mostNodes) × (length (now (moved .exit)) ≡ mostNodes) ⌝ }
 {
-    fold::fold_rows(code, mark, span, up, n, child);
+    fold::fold_rows(code, mark, span, n, child);
     fold::keep_rows(code, mark, span, up, n, parent, moved)
 }
 
