@@ -2,16 +2,16 @@
 use forms::Form;
 use forms::Written;
 use limits::most::MOST_NODES;
-use tree::Codes;
-use tree::Links;
-use tree::Marks;
+use rows::Codes;
+use rows::Links;
+use rows::Marks;
 use word::whole::Checked;
 use word::whole::check_word;
 ghost use mathlib.Core.Path.{_≡_};
 ghost use Rattle.meaning.specs.Gluing.{plain};
 ghost use Rattle.meaning.specs.Promise.{Writes, PlainImage, MinimalImage, NormalForm};
 ghost use Rattle.query.specs.Trees.{Accepted, RowsOf};
-ghost use Rattle.tree.specs.Tables.{Room};
+ghost use Rattle.rows.specs.Rows.{Room};
 ghost use Rattle.forms.specs.Form.{formOf, isPlain, formTree, writtenOf};
 
 // Whether the form is of the plain tree; the two others are of the minimal tree.

@@ -7,8 +7,7 @@ use Rattle.meaning.specs.Gluing.{plain}
 use Rattle.meaning.specs.Tree.{Forest, Tag, plainTree}
 use Rattle.meaning.specs.Image.{ordered, minimalTree}
 use Rattle.meaning.specs.Word.{answered, readWord}
-use Rattle.rows.specs.Rows.{Rows, treeRows}
-use Rattle.tree.specs.Tables.{Room}
+use Rattle.rows.specs.Rows.{Rows, Room, treeRows}
 
 -- the word is accepted
 abbrev pub Accepted : List ℕ → Type 0

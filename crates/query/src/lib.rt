@@ -3,10 +3,10 @@
 use limits::most::MOST_NODES;
 use pool::build::POOL_ROWS;
 use pool::build::build;
-use tree::Codes;
-use tree::Links;
-use tree::Marks;
-ghost use Rattle.tree.specs.Tables.{Room};
+use rows::Codes;
+use rows::Links;
+use rows::Marks;
+ghost use Rattle.rows.specs.Rows.{Room};
 ghost use Rattle.query.specs.Trees.{Accepted, PlainRows, MinimalRows};
 
 // The plain tree, as rows in image order. Returns how many there are.

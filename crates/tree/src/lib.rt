@@ -21,7 +21,7 @@ ghost use Rattle.tree.specs.Tables.{Ends, RowsAre, Sortable};
 // Marks s and d among the first n nodes, which bear no mark: bit 0 is s, bit 1 is d.
 fn mark_ends(mark: &mut Marks, n: usize, s: usize, d: usize)
     requires { ⌜ (n ≤ mostNodes) × (n ≤ length (now mark)) × (0 < n → (s < n) × (d < n)) × ((i : ℕ) → i < n → getD (now mark) i 0 ≡ 0) ⌝ }
-    ensures { λ _. ⌜ Ends (now (mark .exit)) n s d ⌝ }
+    ensures { λ _. ⌜ Ends (now (mark .exit)) n s d × (length (now (mark .exit)) ≡ length (now (mark .entry))) ⌝ }
 {
     if n == 0 {
         return;

@@ -4,10 +4,6 @@ use Rattle.meaning.specs.Image.{minimalTree}
 use Rattle.query.proofs.Laws.{built-table, built-rows}
 use Rattle.query.proofs.minimal_rows.Statement.{statement}
 use Rattle.query.proofs.minimal_rows.Tie as tie
-use Rattle.query.proofs.minimal_rows.Reads as reads
-use Rattle.query.proofs.minimal_rows.Lts as lts
-use Rattle.pool.proofs.build.build.Reads as build-reads
-use Rattle.tree.proofs.minimal_rows.Reads as minimal-rows-reads
 
 build-requires : tie.Need-build-requires
 build-requires c κs = (c .before .before .before .before .before .before .pre .0, (omega arith, omega arith, omega arith, omega arith, omega arith))

@@ -3,11 +3,6 @@ use Rattle.meaning.specs.Folding.{minimal}
 use Rattle.meaning.specs.Image.{ordered}
 use Rattle.tree.proofs.minimal_rows.Statement.{statement}
 use Rattle.tree.proofs.minimal_rows.Tie as tie
-use Rattle.tree.proofs.minimal_rows.Reads as reads
-use Rattle.tree.proofs.minimal_rows.Lts as lts
-use Rattle.tree.proofs.folded_rows.Reads as folded-rows-reads
-use Rattle.tree.proofs.laid_rows.Reads as laid-rows-reads
-use Rattle.tree.proofs.ordered_rows.Reads as ordered-rows-reads
 
 laid-rows-requires : tie.Need-laid-rows-requires
 laid-rows-requires c κs =
@@ -26,8 +21,8 @@ ordered-rows-requires c κs =
     let l = a .laid-rows .ensures in
     let f = k .folded-rows .ensures in (
       f .0,
-      record { firsts = l .1 .firsts; nexts = f .3 },
-      record { codes = r .codes; marks = r .marks; counts = f .4; spans = l .0 .room .spans; ups = f .2 ∙ l .0 .room .ups },
+      record { firsts = l .1 .firsts; nexts = f .2 },
+      record { codes = r .codes; marks = r .marks; counts = f .3; spans = l .0 .room .spans; ups = l .0 .room .ups },
     )
 
 returns : tie.Need-returns

@@ -4,10 +4,6 @@ use Rattle.order.proofs.RowsTable.{rows-tree}
 use Rattle.tree.proofs.Laws.{rows-sortable}
 use Rattle.tree.proofs.plain_rows.Statement.{statement}
 use Rattle.tree.proofs.plain_rows.Tie as tie
-use Rattle.tree.proofs.plain_rows.Reads as reads
-use Rattle.tree.proofs.plain_rows.Lts as lts
-use Rattle.tree.proofs.laid_rows.Reads as laid-rows-reads
-use Rattle.tree.proofs.ordered_rows.Reads as ordered-rows-reads
 
 laid-rows-requires : tie.Need-laid-rows-requires
 laid-rows-requires c κs =
