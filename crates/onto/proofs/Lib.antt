@@ -1,3 +1,4 @@
 pub mod Brothers
 pub mod Left
 pub mod Onto
+pub mod Unique
