@@ -22,7 +22,7 @@ pub fn slot(p: usize, n: usize) -> usize
     n
 }
 
-// The row that the list t has at i.
+// What stands at i, as a row number. One call for each read keeps the proofs of its callers short.
 pub fn row_at(t: &Starts, i: usize) -> usize
     requires { ⌜ i ≤ mostNodes ⌝ }
     ensures { λ r. ⌜ (r ≡ getD (now (t .entry)) i 0) × (r < 65536) ⌝ }
