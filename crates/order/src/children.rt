@@ -3,8 +3,10 @@
 use rows::NO_ROW;
 use rows::Starts;
 use rows::link;
+use rows::wide;
 ghost use mathlib.Core.Path.{_≡_};
 ghost use Prim.Native.Nat.{_+_, _<_, _≤_};
+ghost use lib.ListN.{getD};
 ghost use Rattle.meaning.specs.Limits.{mostNodes};
 ghost use Rattle.order.specs.Links.{slotOf};
 ghost use Rattle.order.specs.Gathering.{Cleared, Hangs, Gathered};
@@ -18,6 +20,14 @@ pub fn slot(p: usize, n: usize) -> usize
         return p;
     }
     n
+}
+
+// What stands at i, as a row number. One call for each read keeps the proofs of its callers short.
+pub fn row_at(t: &Starts, i: usize) -> usize
+    requires { ⌜ i ≤ mostNodes ⌝ }
+    ensures { λ r. ⌜ (r ≡ getD (now (t .entry)) i 0) × (r < 65536) ⌝ }
+{
+    wide(t[i])
 }
 
 // Empties the lists of n rows and of the top, and the counts that sorting keeps in `next`.

@@ -1,4 +1,5 @@
 // A tree of links laid out as rows in image order.
+use crate::children::row_at;
 use rows::Codes;
 use rows::Links;
 use rows::Marks;
@@ -42,7 +43,7 @@ pub fn lay(
 {
     let mut at: usize = 0;
     let mut u = TOP;
-    let mut x = wide(first[n]);
+    let mut x = row_at(first, n);
     // how many children of row u are laid out
     let mut k: u16 = 0;
     loop {
@@ -52,7 +53,7 @@ pub fn lay(
             kids[at] = k;
             span[at] = x as u16;
             up[at] = u as u16;
-            x = wide(first[x]);
+            x = row_at(first, x);
             u = at;
             k = 0;
             at += 1;
@@ -61,7 +62,7 @@ pub fn lay(
         if u == TOP {
             return;
         }
-        x = wide(next[wide(span[u])]);
+        x = row_at(next, wide(span[u]));
         span[u] = (at - u) as u16;
         let before = kids[u];
         kids[u] = k;

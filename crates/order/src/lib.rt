@@ -21,8 +21,8 @@ ghost use Rattle.rows.specs.Rows.{Rows, treeRows, Room};
 ghost use Rattle.rows.specs.Table.{TreeTable, ParentsFirst, tableTree};
 ghost use Rattle.order.specs.Contract.{Lent};
 
-// The tree of the first n rows of a table as rows in image order. parent[i] is the row of i's parent, which stands before row i, and NO_ROW at the top,
-// row 0; the tables from `first` to `key` are lent to work in, and what they are left with means nothing.
+// The tree of the first n rows of a table as rows in image order. parent[i] is the row of i's parent, which stands before row i, and NO_ROW at the
+// top, row 0; the tables from `first` to `key` are lent to work in, and what they are left with means nothing.
 pub fn image_rows(
     parent: &Links,
     code: &Codes,

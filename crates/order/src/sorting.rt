@@ -1,5 +1,6 @@
 // Brothers in ascending byte order: each row is put in its place among its later brothers, so that the lists of children are in order from the start.
 use crate::children::clear;
+use crate::children::row_at;
 use crate::children::slot;
 use crate::key::Keys;
 use crate::key::key_of;
@@ -43,13 +44,13 @@ fn compare(first: &Starts, next: &Starts, key: &Keys, n: usize, x: usize, y: usi
         if l < k {
             return Order::After;
         }
-        let o = compare(first, next, key, n, wide(first[a]), wide(first[b]));
+        let o = compare(first, next, key, n, row_at(first, a), row_at(first, b));
         match o {
             Order::Before => return Order::Before,
             Order::After => return Order::After,
             Order::Same => {
-                a = wide(next[a]);
-                b = wide(next[b]);
+                a = row_at(next, a);
+                b = row_at(next, b);
             }
         }
     }
@@ -75,7 +76,7 @@ fn goes_first(first: &Starts, next: &Starts, key: &Keys, n: usize, c: usize, q: 
     if b < a {
         return false;
     }
-    let o = compare(first, next, key, n, wide(first[c]), wide(first[q]));
+    let o = compare(first, next, key, n, row_at(first, c), row_at(first, q));
     match o {
         Order::Before => true,
         Order::Same => true,
@@ -98,7 +99,7 @@ fn spot(first: &Starts, next: &Starts, key: &Keys, n: usize, c: usize, q: usize)
             return p;
         }
         p = at;
-        at = wide(next[at]);
+        at = row_at(next, at);
     }
     p
 }
@@ -138,7 +139,7 @@ pub fn sort_rows(
         i -= 1;
         key[i] = key_of(code[i], mark[i], next[i]);
         let p = slot(wide(parent[i]), n);
-        let h = wide(first[p]);
+        let h = row_at(first, p);
         let q = place(first, next, key, n, i, h);
         first[p] = q as u16;
         next[p] = next[p] + 1;

@@ -10,6 +10,7 @@ use Rattle.order.proofs.sorting.sort_rows.Tie as tie
 use Rattle.order.proofs.sorting.sort_rows.Reads as reads
 use Rattle.order.proofs.sorting.sort_rows.Lts as lts
 use Rattle.order.proofs.children.clear.Reads as clear-reads
+use Rattle.order.proofs.children.row_at.Reads as row-at-reads
 use Rattle.order.proofs.children.slot.Reads as slot-reads
 use Rattle.order.proofs.key.key_of.Reads as key-of-reads
 use Rattle.order.proofs.sorting.place.Reads as place-reads
@@ -32,19 +33,19 @@ place-requires : tie.Need-place-requires Inv-loop μ-loop
 place-requires c κs =
     let w = c .before .before .before in let q = w .before .before in let k = q .before .before .before in let v = k .before .before .before .before .before .loop in
     let z : suc (v .i - 1) ≡ v .i = omega arith in
-    row-ready (v .inv .1 .0) (v .i - 1) (omega arith) (rw z (v .inv .1 .1)) (q .slot .ensures .0 ∙ ap (slotOf _) (q .before .wide .ensures .0)) (k .key-of .result) (w .wide2 .ensures .0) (w .wide2 .ensures .1)
+    row-ready (v .inv .1 .0) (v .i - 1) (omega arith) (rw z (v .inv .1 .1)) (q .slot .ensures .0 ∙ ap (slotOf _) (q .before .wide .ensures .0)) (k .key-of .result) (w .row-at .ensures .0) (w .row-at .ensures .1)
 
 add-next : tie.Need-add-next Inv-loop μ-loop
 add-next c =
     let w = c .before .before .before .before .before in let q = w .before .before in let k = q .before .before .before in let v = k .before .before .before .before .before .loop in
     let z : suc (v .i - 1) ≡ v .i = omega arith in
-    record { fits = count-fits (v .inv .1 .0) (v .i - 1) (omega arith) (rw z (v .inv .1 .1)) (q .slot .ensures .0 ∙ ap (slotOf _) (q .before .wide .ensures .0)) (k .key-of .result) (w .wide2 .ensures .0) (c .before .place .ensures) }
+    record { fits = count-fits (v .inv .1 .0) (v .i - 1) (omega arith) (rw z (v .inv .1 .1)) (q .slot .ensures .0 ∙ ap (slotOf _) (q .before .wide .ensures .0)) (k .key-of .result) (w .row-at .ensures .0) (c .before .place .ensures) }
 
 loop-again : tie.Need-loop-again Inv-loop μ-loop
 loop-again c =
     let w = c .before .before .before .before .before in let q = w .before .before in let k = q .before .before .before in let v = k .before .before .before .before .before .loop in
     let z : suc (v .i - 1) ≡ v .i = omega arith in
-    (omega arith, sorting-turn (v .inv .1 .0) (v .i - 1) (omega arith) (rw z (v .inv .1 .1)) (q .slot .ensures .0 ∙ ap (slotOf _) (q .before .wide .ensures .0)) (k .key-of .result) (w .wide2 .ensures .0) (c .before .place .ensures) (k .key-of .ensures))
+    (omega arith, sorting-turn (v .inv .1 .0) (v .i - 1) (omega arith) (rw z (v .inv .1 .1)) (q .slot .ensures .0 ∙ ap (slotOf _) (q .before .wide .ensures .0)) (k .key-of .result) (w .row-at .ensures .0) (c .before .place .ensures) (k .key-of .ensures))
 
 returns : tie.Need-returns Inv-loop μ-loop
 returns c = let v = c .before .loop in let z : v .i ≡ 0 = omega arith in sorted-all (v .inv .1 .0 .table) (v .inv .1 .0 .order) (rw z at (v .inv .1 .1))
@@ -70,8 +71,6 @@ sort-rows-spec =
     (λ c. search needs)
     (λ c κs. search needs)
     (λ c κs. search needs)
-    (λ c. search needs)
-    (λ c. search needs)
     (λ c κs. search needs)
     place-requires
     (λ c. search needs)

@@ -9,7 +9,7 @@ use Rattle.order.proofs.sorting.spot.Tie as tie
 use Rattle.order.proofs.sorting.spot.Reads as reads
 use Rattle.order.proofs.sorting.spot.Lts as lts
 use Rattle.order.proofs.sorting.goes_first.Reads as goes-first-reads
-use Rattle.rows.proofs.wide.Reads as wide-reads
+use Rattle.order.proofs.children.row_at.Reads as row-at-reads
 
 abbrev Inv-loop : tie.InvT-loop
 Inv-loop first next key n c q p₀ at₀ p at =
@@ -31,13 +31,13 @@ returns c =
     sym (v .1 ∙ spot-here _ _ _ _ _ _ _ (v .0) (i .loop-test .taken) (g .goes-first .ensures) (c .if1 .taken))
 
 loop-less : tie.Need-loop-less Inv-loop μ-loop
-loop-less c = let i = c .before .before .before .before in goes-along (i .before .loop .inv .0) (i .loop-test .taken) (c .wide .ensures .0) .1
+loop-less c = let i = c .before .before .before in goes-along (i .before .loop .inv .0) (i .loop-test .taken) (c .row-at .ensures .0) .1
 
 loop-again : tie.Need-loop-again Inv-loop μ-loop
 loop-again c =
-    let e = c .before .before in let g = e .before in let i = g .before in let v = i .before .loop .inv in (
-      goes-along (v .0) (i .loop-test .taken) (c .wide .ensures .0) .0,
-      v .1 ∙ spot-on _ _ _ _ _ _ _ (v .0) (i .loop-test .taken) (g .goes-first .ensures) (e .if1 .left) (c .wide .ensures .0),
+    let e = c .before in let g = e .before in let i = g .before in let v = i .before .loop .inv in (
+      goes-along (v .0) (i .loop-test .taken) (c .row-at .ensures .0) .0,
+      v .1 ∙ spot-on _ _ _ _ _ _ _ (v .0) (i .loop-test .taken) (g .goes-first .ensures) (e .if1 .left) (c .row-at .ensures .0),
     )
 
 returns-2 : tie.Need-returns-2 Inv-loop μ-loop
@@ -52,8 +52,6 @@ spot-spec =
     loop-holds
     goes-first-requires
     returns
-    (λ c. search needs)
-    (λ c. search needs)
     (λ c κs. search needs)
     loop-less
     loop-again
