@@ -1,6 +1,9 @@
 // The forms of n rows, in a room that the caller lends: the image, plain or minimal as the rows are, or the normal form.
 // The length comes first: a room that is too short is refused before its first byte is written.
 use limits::refusal::ROOM_TOO_SHORT;
+use rows::Codes;
+use rows::Links;
+use rows::Marks;
 ghost use mathlib.Core.Path.{_≡_};
 ghost use Prim.Native.Nat.{_+_, _≤_};
 ghost use lib.ListN.{length};
@@ -42,11 +45,11 @@ fn is_normal(form: Form) -> bool
 // How many bytes the form of n rows has.
 fn form_length(
     form: Form,
-    code: &[u32],
-    mark: &[u8],
-    kids: &[u16],
-    span: &[u16],
-    up: &[u16],
+    code: &Codes,
+    mark: &Marks,
+    kids: &Links,
+    span: &Links,
+    up: &Links,
     n: usize,
 ) -> usize
     requires { ⌜ QueryRows (now code) (now mark) (now kids) (now span) (now up) n ⌝ }
@@ -64,11 +67,11 @@ fn put(
     room: &mut [u8],
     at: usize,
     form: Form,
-    code: &[u32],
-    mark: &[u8],
-    kids: &[u16],
-    span: &[u16],
-    up: &[u16],
+    code: &Codes,
+    mark: &Marks,
+    kids: &Links,
+    span: &Links,
+    up: &Links,
     n: usize,
 ) -> usize
     requires { ⌜
@@ -88,11 +91,11 @@ fn put(
 fn form_on<'s, 'a>(
     w: &'s mut Writer<'a>,
     form: Form,
-    code: &[u32],
-    mark: &[u8],
-    kids: &[u16],
-    span: &[u16],
-    up: &[u16],
+    code: &Codes,
+    mark: &Marks,
+    kids: &Links,
+    span: &Links,
+    up: &Links,
     n: usize,
 )
     requires { ⌜
@@ -111,11 +114,11 @@ fn form_on<'s, 'a>(
 fn write(
     room: &mut [u8],
     form: Form,
-    code: &[u32],
-    mark: &[u8],
-    kids: &[u16],
-    span: &[u16],
-    up: &[u16],
+    code: &Codes,
+    mark: &Marks,
+    kids: &Links,
+    span: &Links,
+    up: &Links,
     n: usize,
 ) -> usize
     requires { ⌜
@@ -134,11 +137,11 @@ fn write(
 pub fn fit(
     room: &mut [u8],
     form: Form,
-    code: &[u32],
-    mark: &[u8],
-    kids: &[u16],
-    span: &[u16],
-    up: &[u16],
+    code: &Codes,
+    mark: &Marks,
+    kids: &Links,
+    span: &Links,
+    up: &Links,
     n: usize,
 ) -> Written
     requires { ⌜ QueryRows (now code) (now mark) (now kids) (now span) (now up) n ⌝ }

@@ -34,17 +34,17 @@ never f n = (λ e. true-false (sym e), λ a. absurd (n (f .0 a)))
 module _ {w mark up P : List ℕ} (q : Asked w mark up P) where
   -- some row is s, some row is d
   pub borne-s : Borne mark 0
-  borne-s = single-borne mark 0 (q .s) (q .tree .marks)
+  borne-s = single-borne mark 0 (q .s) (q .tree .few)
 
   pub borne-d : Borne mark 1
-  borne-d = single-borne mark 1 (q .d) (q .tree .marks)
+  borne-d = single-borne mark 1 (q .d) (q .tree .few)
 
-  -- a row and a node at which a bit can be read, and a row whose parent can
+  -- a row whose parent can be read, and a row and a node at which a bit can
+  pub linked : (u : ℕ) → u < q .rows → u < mostNodes
+  linked u l = omega (arith, q .tree .few)
+
   pub in-table : (u x : ℕ) → u < q .rows → x < length P → (u < mostNodes) × (x < mostRows) × (tableBytes ≤ length w)
-  in-table u x l lx = (omega (arith, q .tree .few), omega (arith, good-table P (q .labels) (q .table) .few), q .room)
-
-  pub linked : (u : ℕ) → u < q .rows → u < length up
-  linked u l = omega (arith, q .tree .ups)
+  in-table u x l lx = (linked u l, omega (arith, good-table P (q .labels) (q .table) .few), q .room)
 
   pub parent-node : (x : ℕ) → x < length P → getD P x 0 < length P
   parent-node x l = let z = good-table P (q .labels) (q .table) .upTo x l in omega arith

@@ -1,5 +1,7 @@
 // Whether a query selects a pair, by its match table: the ways from s and from d up to the top, each node at its only possible place.
 use document::table::parent_at;
+use rows::Links;
+use rows::Marks;
 ghost use mathlib.Core.Path.{_≡_};
 ghost use mathlib.Core.Logic.{_↔_};
 ghost use mathlib.Core.List.{List};
@@ -24,7 +26,7 @@ fn can_climb(w: &[u8], u: usize, x: usize) -> bool
 }
 
 // Whether the way from row u up to the top can be laid with u on x.
-fn climbs(w: &[u8], up: &[u16], parents: &[u32], u: usize, x: usize) -> bool
+fn climbs(w: &[u8], up: &Links, parents: &[u32], u: usize, x: usize) -> bool
     requires { ⌜ ((mark : List ℕ) × (q : Asked (now w) mark (now up) (now parents)) × (u < q .rows) × (x < length (now parents))) ⌝ }
     ensures { λ r. ⌜
         ((mark : List ℕ) (q : Asked (now (w .entry)) mark (now (up .entry)) (now (parents .entry))) → u < q .rows
@@ -36,7 +38,7 @@ fn climbs(w: &[u8], up: &[u16], parents: &[u32], u: usize, x: usize) -> bool
         if !can_climb(w, c, y) {
             return false;
         }
-        c = rows::link(up, c);
+        c = rows::at(up, c);
         y = parent_at(parents, y);
     }
     bits::test_bit(w, 0, y)
@@ -46,8 +48,8 @@ fn climbs(w: &[u8], up: &[u16], parents: &[u32], u: usize, x: usize) -> bool
 // both ways meet: at one row the places must be the same, and from there one way leads to the top.
 pub fn pair_selected(
     workspace: &[u8],
-    mark: &[u8],
-    up: &[u16],
+    mark: &Marks,
+    up: &Links,
     parents: &[u32],
     m: usize,
     n: usize,
@@ -66,14 +68,14 @@ pub fn pair_selected(
             if !can_climb(workspace, u, x) {
                 return false;
             }
-            u = rows::link(up, u);
+            u = rows::at(up, u);
             x = parent_at(parents, x);
             continue;
         }
         if !can_climb(workspace, v, y) {
             return false;
         }
-        v = rows::link(up, v);
+        v = rows::at(up, v);
         y = parent_at(parents, y);
     }
     if x != y {

@@ -9,7 +9,7 @@ put-form-requires : tie.Need-put-form-requires
 unfolding bytesOf
 put-form-requires c κs =
     let i = c .before .before in
-    (search needs, rw (sym (i .is-normal .ensures) ∙ c .before .if1 .taken) at (i .before .before .before .before .before .before .before .pre .1))
+    (search needs, rw (sym (i .is-normal .ensures) ∙ c .before .if1 .taken) at (i .before .before .pre .1))
 
 returns : tie.Need-returns
 unfolding bytesOf
@@ -19,7 +19,7 @@ put-image-requires : tie.Need-put-image-requires
 unfolding bytesOf
 put-image-requires c κs =
     let i = c .before .before in
-    (search needs, rw (sym (i .is-normal .ensures) ∙ c .before .if1 .left) at (i .before .before .before .before .before .before .before .pre .1))
+    (search needs, rw (sym (i .is-normal .ensures) ∙ c .before .if1 .left) at (i .before .before .pre .1))
 
 returns-2 : tie.Need-returns-2
 unfolding bytesOf
