@@ -5,6 +5,9 @@ use limits::most::MOST_NODES;
 use limits::refusal::BAD_TABLE;
 use limits::refusal::NO_SUCH_NODE;
 use limits::refusal::WORKSPACE_TOO_SHORT;
+use rows::Codes;
+use rows::Links;
+use rows::Marks;
 use word::whole::Checked;
 use word::whole::check_word;
 ghost use Rattle.meaning.specs.Matching.{docOf};
@@ -19,10 +22,10 @@ const TABLE_BYTES: usize = 32768;
 
 // Whether the rows take the pair, with their match table in the workspace; no rows are empty, which selects nothing.
 fn taken(
-    code: &[u32],
-    mark: &[u8],
-    span: &[u16],
-    up: &[u16],
+    code: &Codes,
+    mark: &Marks,
+    span: &Links,
+    up: &Links,
     rows: usize,
     parents: &[u32],
     labels: &[u32],
