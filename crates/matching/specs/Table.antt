@@ -44,8 +44,6 @@ RowInside w u parents = (v : ℕ) → v < mostRows → bitAt w u v ≡ true → 
 -- what is asked of the query: rows that are laid out as a tree
 pub record Query (code span : List ℕ) (n : ℕ) : Type 0 where
   pub few : n ≤ mostNodes
-  pub codes : n ≤ length code
-  pub spans : n ≤ length span
   pub laid : Holds span 0 n (shape span n)
 
 -- "query node u with all below it can be laid with u on document node v, marks ignored": the marks are left out

@@ -1,6 +1,8 @@
 // The match table of a query in rows on a document, filled from the last query node to the first.
 use crate::kinship::keep_parents;
 use document::labels::label_row;
+use rows::Codes;
+use rows::Links;
 ghost use mathlib.Core.Path.{_≡_};
 ghost use mathlib.Core.List.{List};
 ghost use mathlib.Core.Bool.{true};
@@ -13,17 +15,17 @@ ghost use Rattle.document.specs.Nodes.{RowIs, RowClear};
 ghost use Rattle.matching.specs.Table.{Query, Lies, Needs, Ready};
 
 // Whether a child of query node u lies nowhere. n, the number of rows, is for the contract alone.
-fn child_nowhere(w: &[u8], span: &[u16], n: usize, u: usize) -> bool
-    requires { ⌜ (tableBytes ≤ length (now w)) × (n ≤ mostNodes) × (n ≤ length (now span)) × Holds (now span) 0 n (shape (now span) n) × (u < n) ⌝ }
+fn child_nowhere(w: &[u8], span: &Links, n: usize, u: usize) -> bool
+    requires { ⌜ (tableBytes ≤ length (now w)) × (n ≤ mostNodes) × Holds (now span) 0 n (shape (now span) n) × (u < n) ⌝ }
     ensures { λ r. ⌜ (r ≡ true → (c : ℕ) × (u < c) × (c < n) × Needs (now (span .entry)) u c × RowClear (now (w .entry)) c) ⌝ }
 {
-    let end = u + rows::link(span, u);
+    let end = u + rows::at(span, u);
     let mut c = u + 1;
     while c < end {
         if bits::row_clear(w, c) {
             return true;
         }
-        c += rows::link(span, c);
+        c += rows::at(span, c);
     }
     false
 }
@@ -32,8 +34,8 @@ fn child_nowhere(w: &[u8], span: &[u16], n: usize, u: usize) -> bool
 // Where the row is empty nothing is left to take away. n, the number of rows, is for the contract alone.
 fn fill_row(
     w: &mut [u8],
-    code: &[u32],
-    span: &[u16],
+    code: &Codes,
+    span: &Links,
     n: usize,
     u: usize,
     parents: &[u32],
@@ -44,22 +46,22 @@ fn fill_row(
         RowIs (now (w .entry)) u (Lies (now (code .entry)) (now (span .entry)) (now (parents .entry)) (now (labels .entry)) u) (now (w .exit)) ⌝ }
 {
     label_row(w, u, code[u], labels);
-    let end = u + rows::link(span, u);
+    let end = u + rows::at(span, u);
     let mut c = u + 1;
     while c < end {
         if bits::row_clear(w, u) {
             return;
         }
         keep_parents(w, u, c, parents);
-        c += rows::link(span, c);
+        c += rows::at(span, c);
     }
 }
 
 // Fills row u, when the rows behind it are filled. Where a child of u lies nowhere u lies nowhere, and the row stays clear.
 fn match_row(
     w: &mut [u8],
-    code: &[u32],
-    span: &[u16],
+    code: &Codes,
+    span: &Links,
     n: usize,
     u: usize,
     parents: &[u32],
@@ -78,8 +80,8 @@ fn match_row(
 // Fills the match table of the n rows of a query on a document, from the last query node to the first. No rows are empty: all bits stay clear.
 pub fn match_table(
     workspace: &mut [u8],
-    code: &[u32],
-    span: &[u16],
+    code: &Codes,
+    span: &Links,
     n: usize,
     parents: &[u32],
     labels: &[u32],

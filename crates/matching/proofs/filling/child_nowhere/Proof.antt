@@ -2,6 +2,7 @@
 use mathlib.Core.Path.{sym, _∙_}
 use Prim.Native.Nat.{_-_, _≤_, _<_}
 use native.Mathlib.Omega.{arith}
+use borrow.Author.Needs.{needs}
 use Rattle.bits.proofs.Bits.{row-clear}
 use Rattle.rows.proofs.Rows.{row-opens}
 use Rattle.theory.proofs.Look.{never}
@@ -15,32 +16,16 @@ Inv-loop w span n u end c₀ c = (u < c) × (end ≤ n) × Children span u c end
 abbrev μ-loop : tie.MeasureT-loop
 μ-loop w span n u end c₀ c = end - c
 
-link-requires : tie.Need-link-requires Inv-loop μ-loop
-link-requires c κs = omega (arith, c .before .before .pre .2, c .before .before .pre .4)
-
 add-end : tie.Need-add-end Inv-loop μ-loop
 add-end c =
-    let s = c .before .before .before in
-    let o = row-opens _ _ (s .pre .3) _ (s .pre .4) in omega (arith, c .link .ensures .0, o .inside, s .pre .1)
-
-add-c : tie.Need-add-c Inv-loop μ-loop
-add-c c =
-    let s = c .before .before .before in
-    omega (arith, s .pre .1, s .pre .4)
+    let s = c .before .before in
+    let o = row-opens _ _ (s .pre .2) _ (s .pre .3) in omega (arith, c .at .ensures .0, o .inside, s .pre .1)
 
 loop-holds : tie.Need-loop-holds Inv-loop μ-loop
 loop-holds c =
-    let s = c .before .before .before in
-    let o = row-opens _ _ (s .pre .3) _ (s .pre .4) in
-    (omega arith, omega (arith, c .link .ensures .0, o .inside), rw (c .link .ensures .0) (children-start _ _ _ (s .pre .3) (s .pre .4)))
-
-row-clear-requires : tie.Need-row-clear-requires Inv-loop μ-loop
-row-clear-requires c κs =
-    let s = c .before .before .before .before .before in (
-      omega (arith, s .pre .1, c .before .loop .inv .1, c .loop-test .taken),
-      omega
-          (arith, s .pre .0, s .pre .1, c .before .loop .inv .1, c .loop-test .taken),
-    )
+    let s = c .before .before in
+    let o = row-opens _ _ (s .pre .2) _ (s .pre .3) in
+    (omega arith, omega (arith, c .at .ensures .0, o .inside), rw (c .at .ensures .0) (children-start _ _ _ (s .pre .2) (s .pre .3)))
 
 returns : tie.Need-returns Inv-loop μ-loop
 returns c =
@@ -54,28 +39,23 @@ returns c =
       row-clear _ _ (sym (c .before .row-clear .ensures) ∙ c .if1 .taken),
     )
 
-link-requires-2 : tie.Need-link-requires-2 Inv-loop μ-loop
-link-requires-2 c κs =
-    let b = c .before .before in
-    omega (arith, b .before .before .before .before .before .pre .2, b .before .loop .inv .1, b .loop-test .taken)
-
 add-c-2 : tie.Need-add-c-2 Inv-loop μ-loop
 add-c-2 c =
     let b = c .before .before .before in
     let l = b .before in
     let o = child-span _ _ _ _ (b .loop-test .taken) (l .loop .inv .2) in
-    omega (arith, c .link2 .ensures .0, o .1, l .loop .inv .1, l .before .before .before .before .pre .1)
+    omega (arith, c .at2 .ensures .0, o .1, l .loop .inv .1, l .before .before .before .pre .1)
 
 loop-less : tie.Need-loop-less Inv-loop μ-loop
 loop-less c =
     let b = c .before .before .before in
-    let o = child-span _ _ _ _ (b .loop-test .taken) (b .before .loop .inv .2) in omega (arith, c .link2 .ensures .0, o .0, b .loop-test .taken)
+    let o = child-span _ _ _ _ (b .loop-test .taken) (b .before .loop .inv .2) in omega (arith, c .at2 .ensures .0, o .0, b .loop-test .taken)
 
 loop-again : tie.Need-loop-again Inv-loop μ-loop
 loop-again c =
     let b = c .before .before .before in
     let l = b .before in
-    (omega (arith, l .loop .inv .0), l .loop .inv .1, rw (c .link2 .ensures .0) (child-next _ _ _ _ (b .loop-test .taken) (l .loop .inv .2)))
+    (omega (arith, l .loop .inv .0), l .loop .inv .1, rw (c .at2 .ensures .0) (child-next _ _ _ _ (b .loop-test .taken) (l .loop .inv .2)))
 
 returns-2 : tie.Need-returns-2 Inv-loop μ-loop
 returns-2 c = λ e. never cc
@@ -83,5 +63,5 @@ returns-2 c = λ e. never cc
 pub child-nowhere-spec : {M : Type 1} → statement M
 child-nowhere-spec =
     tie.close
-    (tie.spec Inv-loop μ-loop link-requires add-end add-c loop-holds row-clear-requires returns link-requires-2 add-c-2 loop-less loop-again
+    (tie.spec Inv-loop μ-loop (λ c κs. search needs) add-end (λ c. search needs) loop-holds (λ c κs. search needs) returns (λ c κs. search needs) add-c-2 loop-less loop-again
     returns-2)

@@ -2,6 +2,7 @@
 use mathlib.Core.Path.{sym, _∙_}
 use Prim.Native.Nat.{_+_, _-_, _≤_, _<_}
 use native.Mathlib.Omega.{arith}
+use borrow.Author.Needs.{needs}
 use Rattle.bits.specs.Bits.{OnlyRow}
 use Rattle.bits.proofs.Bits.{only-refl, only-then, row-clear}
 use Rattle.rows.proofs.Rows.{row-opens}
@@ -19,73 +20,28 @@ Inv-loop w₀ code span n u parents labels end c₀ w c = (u < c) × (end ≤ n)
 abbrev μ-loop : tie.MeasureT-loop
 μ-loop w₀ code span n u parents labels end c₀ w c = end - c
 
-mul-label-row : tie.Need-mul-label-row Inv-loop μ-loop
-mul-label-row c =
-    let s = c .before .before .before .before .before .before in
-    omega (arith, s .pre .row, s .pre .query .codes)
-
-shared-slice-read-label-row : tie.Need-shared-slice-read-label-row Inv-loop μ-loop
-shared-slice-read-label-row c =
-    let s = c .before .before .before .before .before .before .before in
-    omega (arith, s .pre .row, s .pre .query .codes)
-
 label-row-requires : tie.Need-label-row-requires Inv-loop μ-loop
 label-row-requires c κs =
-    let s = c .before .before .before .before .before .before .before in
-    let G = good-table _ _ (s .pre .table) in (
-      omega (arith, s .pre .row, s .pre .query .few),
-      omega (arith, s .pre .row, s .pre .query .few, s .pre .room),
-      omega (arith, G .few, G .labels),
-      s .pre .clear,
-    )
-
-link-requires : tie.Need-link-requires Inv-loop μ-loop
-link-requires c κs =
-    let s = c .before .before .before .before .before .before .before .before .before .before in
-    omega (arith, s .pre .row, s .pre .query .spans)
+    let p = c .before .before .before .before .before .pre in let G = good-table _ _ (p .table) in
+    (search needs, search needs, omega (arith, G .few, G .labels), p .clear)
 
 add-end : tie.Need-add-end Inv-loop μ-loop
 add-end c =
-    let s = c .before .before .before .before .before .before .before .before .before .before .before in
-    let o = row-opens _ _ (s .pre .query .laid) _ (s .pre .row) in omega (arith, c .link .ensures .0, o .inside, s .pre .query .few)
-
-add-c : tie.Need-add-c Inv-loop μ-loop
-add-c c =
-    let s = c .before .before .before .before .before .before .before .before .before .before .before in
-    omega (arith, s .pre .row, s .pre .query .few)
+    let s = c .before .before .before .before .before .before .before .before .before in
+    let o = row-opens _ _ (s .pre .query .laid) _ (s .pre .row) in omega (arith, c .at .ensures .0, o .inside, s .pre .query .few)
 
 loop-holds : tie.Need-loop-holds Inv-loop μ-loop
 loop-holds c =
     let b = c .before .before .before in
-    let s2 = b .before .before .before .before .before .before .before .before in
+    let s2 = b .before .before .before .before .before .before in
     let o = row-opens _ _ (s2 .pre .query .laid) _ (s2 .pre .row) in (
       omega arith,
-      omega (arith, c .link .ensures .0, o .inside),
+      omega (arith, c .at .ensures .0, o .inside),
       only-refl _ _,
       rows-kept (s2 .args .code .now) (s2 .args .span .now) _ _ (s2 .pre .table) _ _ _ _ (b .label-row .ensures .only) (s2 .pre .behind),
-      rw (c .link .ensures .0) (partly-start _ _ _ _ (s2 .pre .table) _ _ (s2 .pre .query) (s2 .pre .row) _ _ (b .label-row .ensures)),
+      rw (c .at .ensures .0) (partly-start _ _ _ _ (s2 .pre .table) _ _ (s2 .pre .query) (s2 .pre .row) _ _ (b .label-row .ensures)),
       λ x l t. let G = good-table _ _ (s2 .pre .table) in let s = b .label-row .ensures .bits x l .0 t in omega (arith, s .0, G .labels),
     )
-
-row-clear-requires : tie.Need-row-clear-requires Inv-loop μ-loop
-row-clear-requires c κs =
-    let b = c .before .before .before .before .before .before in
-    let s = b .before .before .before .before .before .before .before .before in (
-      omega (arith, s .pre .row, s .pre .query .few),
-      omega (
-        arith,
-        s .pre .row,
-        s .pre .query .few,
-        s .pre .room,
-        b .label-row .ensures .only .same,
-        c .before .before .loop .inv .2 .same,
-      ),
-    )
-
-same-length : tie.Need-same-length Inv-loop μ-loop
-same-length c =
-    let l = c .before .before .before .before in
-    l .loop .inv .2 .same ∙ l .before .before .before .before .label-row .ensures .only .same
 
 returns : tie.Need-returns Inv-loop μ-loop
 returns c =
@@ -94,7 +50,7 @@ returns c =
     record {
       only = only-then _ _ _ _ (b .label-row .ensures .only) (l .loop .inv .2);
       bits = partly-clear _ _ _ _
-          (b .before .before .before .before .before .before .before .before .pre .table) _ _ _ _
+          (b .before .before .before .before .before .before .pre .table) _ _ _ _
           (row-clear _ _ (sym (c .before .row-clear .ensures) ∙ c .if1 .taken)) (l .loop .inv .4);
     }
 
@@ -103,7 +59,7 @@ keep-parents-requires c κs =
     let b = c .before .before .before .before in
     let l = b .before in
     let b2 = l .before .before .before .before in
-    let s = b2 .before .before .before .before .before .before .before .before in
+    let s = b2 .before .before .before .before .before .before in
     let G = good-table _ _ (s .pre .table) in (
       good-parents _ _ G,
       omega (arith, s .pre .row, s .pre .query .few),
@@ -114,16 +70,6 @@ keep-parents-requires c κs =
       l .loop .inv .5,
     )
 
-link-requires-2 : tie.Need-link-requires-2 Inv-loop μ-loop
-link-requires-2 c κs =
-    let b = c .before .before .before .before .before .before .before in
-    omega (
-      arith,
-      b .before .before .before .before .before .before .before .before .before .before .before .before .before .pre .query .spans,
-      b .before .loop .inv .1,
-      b .loop-test .taken,
-    )
-
 add-c-2 : tie.Need-add-c-2 Inv-loop μ-loop
 add-c-2 c =
     let b = c .before .before .before .before .before .before .before .before in
@@ -131,38 +77,35 @@ add-c-2 c =
     let o = partly-next _ _ _ _ _ _ _ _ (b .loop-test .taken) (l .loop .inv .4) in
     omega (
       arith,
-      c .link2 .ensures .0,
+      c .at2 .ensures .0,
       o .1,
       l .loop .inv .1,
-      l .before .before .before .before .before .before .before .before .before .before .before .before .pre .query .few,
+      l .before .before .before .before .before .before .before .before .before .before .pre .query .few,
     )
 
 loop-less : tie.Need-loop-less Inv-loop μ-loop
 loop-less c =
     let b = c .before .before .before .before .before .before .before .before in
     let o = partly-next _ _ _ _ _ _ _ _ (b .loop-test .taken) (b .before .loop .inv .4) in
-    omega (arith, c .link2 .ensures .0, o .0, b .loop-test .taken)
+    omega (arith, c .at2 .ensures .0, o .0, b .loop-test .taken)
 
 loop-again : tie.Need-loop-again Inv-loop μ-loop
 loop-again c =
     let b2 = c .before .before .before in
     let b = b2 .before .before .before .before .before in
     let l2 = b .before in
-    let s = l2 .before .before .before .before .before .before .before .before .before .before .before .before in
+    let s = l2 .before .before .before .before .before .before .before .before .before .before in
     let o = partly-next _ _ _ _ _ _ _ _ (b .loop-test .taken) (l2 .loop .inv .4) in (
       omega (arith, l2 .loop .inv .0),
       l2 .loop .inv .1,
       only-then _ _ _ _ (l2 .loop .inv .2) (b2 .keep-parents .ensures .only),
       rows-kept (s .args .code .now) (s .args .span .now) _ _ (s .pre .table) _ _ _ _ (b2 .keep-parents .ensures .only) (l2 .loop .inv .3),
-      rw (c .link2 .ensures .0)
+      rw (c .at2 .ensures .0)
           (partly-turn _ _ _ _ (s .pre .table) _ _ _ (b .loop-test .taken) _ _
           (λ x lx. l2 .loop .inv .3 (l2 .loop .c) x (omega (arith, l2 .loop .inv .0)) (omega (arith, l2 .loop .inv .1, b .loop-test .taken)) lx)
           (b2 .keep-parents .ensures) (l2 .loop .inv .4)),
       λ x l t. l2 .loop .inv .5 x l (b2 .keep-parents .ensures .bits x l .0 t .0),
     )
-
-same-length-2 : tie.Need-same-length-2 Inv-loop μ-loop
-same-length-2 c = c .before .loop .inv .2 .same ∙ c .before .before .before .before .before .label-row .ensures .only .same
 
 returns-2 : tie.Need-returns-2 Inv-loop μ-loop
 returns-2 c =
@@ -170,12 +113,12 @@ returns-2 c =
     record {
       only = only-then _ _ _ _ (b .label-row .ensures .only) (c .before .loop .inv .2);
       bits = partly-all _ _ _ _
-          (b .before .before .before .before .before .before .before .before .pre .table) _ _ _ (omega (arith, c .loop-test .left)) _
+          (b .before .before .before .before .before .before .pre .table) _ _ _ (omega (arith, c .loop-test .left)) _
           (c .before .loop .inv .4);
     }
 
 pub fill-row-spec : {M : Type 1} → statement M
 fill-row-spec =
     tie.close
-    (tie.spec Inv-loop μ-loop mul-label-row shared-slice-read-label-row label-row-requires link-requires add-end add-c loop-holds
-    row-clear-requires same-length returns keep-parents-requires link-requires-2 add-c-2 loop-less loop-again same-length-2 returns-2)
+    (tie.spec Inv-loop μ-loop (λ c. search needs) (λ c. search needs) label-row-requires (λ c κs. search needs) add-end (λ c. search needs) loop-holds
+    (λ c κs. search needs) (λ c. search needs) returns keep-parents-requires (λ c κs. search needs) add-c-2 loop-less loop-again (λ c. search needs) returns-2)

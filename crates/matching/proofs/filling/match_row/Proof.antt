@@ -6,7 +6,7 @@ use Rattle.matching.proofs.filling.match_row.Tie as tie
 
 returns : tie.Need-returns
 returns c =
-    let s = c .before .before .before .before .before .before .before .before in
+    let s = c .before .before .before .before .before .before in
     let h = c .before .child-nowhere .ensures (c .if1 .taken) in row-nowhere _ _ _ _ (s .pre .table) _ _ _ _ (s .pre) (h .1) (h .2) (h .3) (h .4)
 
 pub match-row-spec : {M : Type 1} → statement M

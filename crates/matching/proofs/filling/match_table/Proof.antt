@@ -17,19 +17,16 @@ Inv-loop workspace₀ code span n parents labels u₀ workspace u = (u ≤ n)
 abbrev μ-loop : tie.MeasureT-loop
 μ-loop workspace₀ code span n parents labels u₀ workspace u = u
 
-clear-requires : tie.Need-clear-requires Inv-loop μ-loop
-clear-requires c κs = c .before .before .before .before .before .before .pre .2
-
 loop-holds : tie.Need-loop-holds Inv-loop μ-loop
 loop-holds c =
-    let s = c .before .before .before .before .before .before .before .before .before in
+    let s = c .before .before .before .before .before .before .before in
     (omega arith, λ w h. filled-none _ _ _ _ (s .pre .1) w _ (s .pre .0) _ h)
 
 match-row-requires : tie.Need-match-row-requires Inv-loop μ-loop
 match-row-requires c κs =
     let l = c .before .before in
     let b = l .before .before .before in
-    let s = b .before .before .before .before .before .before .before in
+    let s = b .before .before .before .before .before in
     filled-ready _ _ _ _ (s .pre .1) _ _ (s .pre .0) _ _ (s .pre .2) (c .before .loop-test .taken) (l .loop .inv .0)
     (l .loop .inv .1 _ (b .clear .ensures))
 
@@ -37,7 +34,7 @@ loop-again : tie.Need-loop-again Inv-loop μ-loop
 loop-again c =
     let b = c .before .before in
     let l = b .before .before .before in
-    let s = l .before .before .before .before .before .before .before .before .before .before in (
+    let s = l .before .before .before .before .before .before .before .before in (
       omega (arith, l .loop .inv .0),
       λ w h. filled-more _ _ _ _ (s .pre .1) w _ (s .pre .0) _ _ _ (b .before .before .loop-test .taken)
           (l .loop .inv .0) (l .loop .inv .1 w h) (b .match-row .ensures),
@@ -49,12 +46,12 @@ same-length c = c .before .loop .inv .1 _ (c .before .before .before .before .cl
 returns : tie.Need-returns Inv-loop μ-loop
 returns c =
     let b = c .before .before .before .before in
-    let s = b .before .before .before .before .before .before .before in
+    let s = b .before .before .before .before .before in
     λ mark. filled-all _ _ _ _ (s .pre .1) _ _ (s .pre .0) _ _ (omega (arith, c .loop-test .left))
     (c .before .loop .inv .1 _ (b .clear .ensures)) mark
 
 pub match-table-spec : {M : Type 1} → statement M
 match-table-spec =
     tie.close
-    (tie.spec Inv-loop μ-loop clear-requires loop-holds (λ c. search needs) match-row-requires (λ c. search needs) loop-again same-length
+    (tie.spec Inv-loop μ-loop (λ c κs. search needs) loop-holds (λ c. search needs) match-row-requires (λ c. search needs) loop-again same-length
     returns)

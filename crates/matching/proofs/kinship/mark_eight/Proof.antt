@@ -18,16 +18,6 @@ abbrev μ-loop : tie.MeasureT-loop
 loop-holds : tie.Need-loop-holds Inv-loop μ-loop
 loop-holds c = (omega arith, upto-none (λ j v. getD (c .before .before .args .parents .now) (c .before .before .args .first + j) 0 ≡ v) _)
 
-add-mark-node : tie.Need-add-mark-node Inv-loop μ-loop
-add-mark-node c =
-    let s = c .before .before .before .before in
-    omega (arith, s .pre .0 .few, s .pre .2)
-
-mark-node-requires : tie.Need-mark-node-requires Inv-loop μ-loop
-mark-node-requires c κs =
-    let s = c .before .before .before .before .before in
-    (s .pre .0, omega (arith, c .before .before .loop .inv .1 .same, s .pre .1), omega (arith, s .pre .2, c .before .loop-test .taken))
-
 loop-again : tie.Need-loop-again Inv-loop μ-loop
 loop-again c =
     let l = c .before .before .before .before .before in
@@ -37,14 +27,11 @@ loop-again c =
           (c .before .before .mark-node .ensures),
     )
 
-same-length : tie.Need-same-length Inv-loop μ-loop
-same-length c = c .before .loop .inv .1 .same
-
 returns : tie.Need-returns Inv-loop μ-loop
 returns c = let z : c .before .loop .k ≡ 8 = omega arith in rw z at (c .before .loop .inv .1)
 
 pub mark-eight-spec : {M : Type 1} → statement M
 mark-eight-spec =
     tie.close
-    (tie.spec Inv-loop μ-loop loop-holds add-mark-node mark-node-requires (λ c. search needs) (λ c. search needs) loop-again same-length
+    (tie.spec Inv-loop μ-loop loop-holds (λ c. search needs) (λ c κs. search needs) (λ c. search needs) (λ c. search needs) loop-again (λ c. search needs)
     returns)

@@ -23,9 +23,7 @@ loop-holds c =
     (omega arith, upto-none (λ j v. (bitOf (s .args .byte) j ≡ true) × (getD (s .args .parents .now) (s .args .first + j) 0 ≡ v)) _)
 
 mark-parent-requires : tie.Need-mark-parent-requires Inv-loop μ-loop
-mark-parent-requires c κs =
-    let s = c .before .before .before .before .before in
-    (s .pre .0, omega (arith, c .before .before .loop .inv .1 .same, s .pre .1), c .before .loop-test .taken, λ e. s .pre .3 _ e)
+mark-parent-requires c κs = (search needs, search needs, search needs, λ e. c .before .before .before .before .before .pre .3 _ e)
 
 loop-again : tie.Need-loop-again Inv-loop μ-loop
 loop-again c =
@@ -35,9 +33,6 @@ loop-again c =
       upto-more (λ j v. (bitOf (s .args .byte) j ≡ true) × (getD (s .args .parents .now) (s .args .first + j) 0 ≡ v)) _ _ _ _
           (l .loop .inv .1) (c .before .before .mark-parent .ensures),
     )
-
-same-length : tie.Need-same-length Inv-loop μ-loop
-same-length c = c .before .loop .inv .1 .same
 
 returns : tie.Need-returns Inv-loop μ-loop
 returns c =
@@ -49,4 +44,4 @@ pub mark-parents-spec : {M : Type 1} → statement M
 mark-parents-spec =
     tie.close
     (tie.spec Inv-loop μ-loop loop-holds (λ c. search needs) mark-parent-requires (λ c. search needs) (λ c. search needs) loop-again
-    same-length returns)
+    (λ c. search needs) returns)

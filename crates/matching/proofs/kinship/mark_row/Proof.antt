@@ -1,6 +1,6 @@
 -- The parents of the nodes below 8i are flagged.
 use borrow.Author.Needs.{needs}
-use mathlib.Core.Path.{_≡_, refl, _∙_}
+use mathlib.Core.Path.{_≡_, _∙_}
 use mathlib.Core.List.{List}
 use Prim.Native.Nat.{ℕ, _+_, _*_, _-_, _≤_, _<_}
 use native.Mathlib.Omega.{arith}
@@ -17,37 +17,12 @@ Inv-loop w c parents has₀ at bytes b i₀ has i = (1 ≤ i) × (i ≤ bytes) �
 abbrev μ-loop : tie.MeasureT-loop
 μ-loop w c parents has₀ at bytes b i₀ has i = bytes - i
 
-shared-slice-read-b : tie.Need-shared-slice-read-b Inv-loop μ-loop
-shared-slice-read-b c =
-    let s = c .before .before .before .before in
-    omega (arith, s .pre .2, s .pre .3)
-
 mark-parents-requires : tie.Need-mark-parents-requires Inv-loop μ-loop
 mark-parents-requires c κs =
     let b = c .before .before .before .before in
     let s = b .before in
     let lb : getD (s .args .w .now) (128 * s .args .c) 0 < 256 = omega (arith, b .shared-slice-known .given (128 * s .args .c)) in
-    (s .pre .0, s .pre .1, omega arith, first-inside _ _ (s .args .parents .now) (s .pre .4) lb)
-
-loop-holds : tie.Need-loop-holds Inv-loop μ-loop
-loop-holds c = (omega arith, omega (arith, c .before .before .before .before .before .before .before .before .pre .0 .some), refl, λ h a. a)
-
-add-mark-byte : tie.Need-add-mark-byte Inv-loop μ-loop
-add-mark-byte c =
-    let s = c .before .before .before .before .before .before .before .before .before .before in
-    omega (arith, s .pre .0 .few, s .pre .2, c .before .loop .inv .1)
-
-shared-slice-read-mark-byte : tie.Need-shared-slice-read-mark-byte Inv-loop μ-loop
-shared-slice-read-mark-byte c =
-    let s = c .before .before .before .before .before .before .before .before .before .before .before in
-    omega (arith, s .pre .0 .few, s .pre .3, c .before .before .loop .inv .1)
-
-mul-mark-byte : tie.Need-mul-mark-byte Inv-loop μ-loop
-mul-mark-byte c = omega (
-  arith,
-  c .before .before .before .before .before .before .before .before .before .before .before .pre .0 .few,
-  c .before .before .loop .inv .1,
-)
+    (search needs, search needs, omega arith, first-inside _ _ (s .args .parents .now) (s .pre .4) lb)
 
 mark-byte-requires : tie.Need-mark-byte-requires Inv-loop μ-loop
 mark-byte-requires c κs =
@@ -78,9 +53,6 @@ loop-again c =
           (l .loop .i) (l .loop .inv .0) lb (l .loop .inv .3 h a) (b .mark-byte .ensures),
     )
 
-same-length : tie.Need-same-length Inv-loop μ-loop
-same-length c = c .before .loop .inv .2 ∙ c .before .before .before .before .mark-parents .ensures .same
-
 returns : tie.Need-returns Inv-loop μ-loop
 returns c =
     let l = c .before in
@@ -94,5 +66,5 @@ returns c =
 pub mark-row-spec : {M : Type 1} → statement M
 mark-row-spec =
     tie.close
-    (tie.spec Inv-loop μ-loop (λ c. search needs) (λ c. search needs) shared-slice-read-b mark-parents-requires loop-holds add-mark-byte
-    shared-slice-read-mark-byte mul-mark-byte mark-byte-requires (λ c. search needs) (λ c. search needs) loop-again same-length returns)
+    (tie.spec Inv-loop μ-loop (λ c. search needs) (λ c. search needs) (λ c. search needs) mark-parents-requires (λ c. search needs) (λ c. search needs)
+    (λ c. search needs) (λ c. search needs) mark-byte-requires (λ c. search needs) (λ c. search needs) loop-again (λ c. search needs) returns)
