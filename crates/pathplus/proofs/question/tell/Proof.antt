@@ -6,35 +6,22 @@ use borrow.Author.Needs.{needs}
 use Rattle.pathplus.proofs.question.tell.Statement.{statement}
 use Rattle.pathplus.proofs.question.tell.Tie as tie
 
-taken-requires : tie.Need-taken-requires
-taken-requires c κs =
-    let r = c .before .before .before .before .before in
-    let (acc, N) = r .before .before .before .before .before .before .before .before .before .before .pre in
-    (record { kids = _; query = query-rows Minimal (r .minimal-rows .ensures) acc }, N)
-
-returns : tie.Need-returns
-returns c =
-    let r = c .before .before .before .before .before .before .before .before .before in
-    let (acc, N) = r .before .before .before .before .before .before .before .before .before .before .pre in
-    selects-told _ (acc .1) N (r .minimal-rows .ensures .tree (acc .0) (acc .1)) (rw (c .if1 .taken) at (c .before .before .before .taken .ensures))
-
-returns-2 : tie.Need-returns-2
-returns-2 c =
-    let r = c .before .before .before .before .before .before .before .before .before in
-    let (acc, N) = r .before .before .before .before .before .before .before .before .before .before .pre in
-    selects-told _ (acc .1) N (r .minimal-rows .ensures .tree (acc .0) (acc .1)) (rw (c .if1 .left) at (c .before .before .before .taken .ensures))
-
 pub tell-spec : {M : Type 1} → statement M
 tell-spec =
     tie.close
     (tie.spec
     (λ c κs. search needs)
+    (λ c κs.
+    let r = c .before .before .before .before .before in
+    let (acc, N) = r .before .before .before .before .before .before .before .before .before .before .pre in
+    (record { kids = _; query = query-rows Minimal (r .minimal-rows .ensures) acc }, N))
     (λ c. search needs)
+    (λ c.
+    let r = c .before .before .before .before .before .before .before .before .before in
+    let (acc, N) = r .before .before .before .before .before .before .before .before .before .before .pre in
+    selects-told _ (acc .1) N (r .minimal-rows .ensures .tree (acc .0) (acc .1)) (rw (c .if1 .taken) at (c .before .before .before .taken .ensures)))
     (λ c. search needs)
-    (λ c. search needs)
-    (λ c. search needs)
-    taken-requires
-    (λ c. search needs)
-    returns
-    (λ c. search needs)
-    returns-2)
+    (λ c.
+    let r = c .before .before .before .before .before .before .before .before .before in
+    let (acc, N) = r .before .before .before .before .before .before .before .before .before .before .pre in
+    selects-told _ (acc .1) N (r .minimal-rows .ensures .tree (acc .0) (acc .1)) (rw (c .if1 .left) at (c .before .before .before .taken .ensures))))

@@ -6,29 +6,18 @@ use borrow.Author.Needs.{needs}
 use Rattle.pathplus.proofs.writers.write_accepted.Statement.{statement}
 use Rattle.pathplus.proofs.writers.write_accepted.Tie as tie
 
-fit-requires : tie.Need-fit-requires
-fit-requires c κs =
-    let r = c .before .before .before .before .before .before in
-    let s = r .before .before .before .before .before .before .before .before in
-    query-rows (s .args .form) (r .form-rows .ensures) (s .pre)
-
-returns : tie.Need-returns
-returns c =
-    let r = c .before .before .before .before .before .before .before .before .before in
-    let s = r .before .before .before .before .before .before .before .before in
-    let bytes = form-written (s .args .form) (r .form-rows .ensures) (s .pre) in
-    writes-fitted (formOf (s .args .form)) (s .pre .1) (rw bytes at (c .before .before .fit .ensures))
-
 pub write-accepted-spec : {M : Type 1} → statement M
 write-accepted-spec =
     tie.close
     (tie.spec
     (λ c κs. search needs)
+    (λ c κs.
+    let r = c .before .before .before .before .before .before in
+    let s = r .before .before .before .before .before .before .before .before in
+    query-rows (s .args .form) (r .form-rows .ensures) (s .pre))
     (λ c. search needs)
-    (λ c. search needs)
-    (λ c. search needs)
-    (λ c. search needs)
-    (λ c. search needs)
-    fit-requires
-    (λ c. search needs)
-    returns)
+    (λ c.
+    let r = c .before .before .before .before .before .before .before .before .before in
+    let s = r .before .before .before .before .before .before .before .before in
+    let bytes = form-written (s .args .form) (r .form-rows .ensures) (s .pre) in
+    writes-fitted (formOf (s .args .form)) (s .pre .1) (rw bytes at (c .before .before .fit .ensures))))
