@@ -5,7 +5,7 @@ use mathlib.Core.List.{List}
 use mathlib.Core.Bool.{Bool, true, false, cond}
 use Prim.Native.Nat.{ℕ, suc, _<_, _≤_}
 use native.Mathlib.Omega.{arith}
-use lib.ListN.{length, getD, set, length-set}
+use lib.ListN.{getD, set, length-set}
 use lib.Seq.{getD-set-same, getD-set-other}
 use Rattle.meaning.specs.Tree.{Forest, bare, tree, size}
 use Rattle.rows.specs.Rows.{width}
@@ -86,33 +86,39 @@ module _ (key : List ℕ) (c : ℕ) (K : Forest ℕ) where
       go false ih = ap suc ih
 
 -- ------------------------------------------------------------------ by two links
--- the tree at c with K below it, whose next brother is now v; the next brother of p is now w
-module _ (n : ℕ) (fs ns key : List ℕ) (c : ℕ) (K : Forest ℕ) (lc : c < n) (len : n ≤ length ns) (hK : Linked n fs ns (getD fs c 0) K) (cK : In c K → ⊥) where
+-- the tree at c, whose next brother is now v; the next brother of p is now y
+module _ {n : ℕ} {fs ns : List ℕ} {c q : ℕ} (w : Ready n fs ns c q) (key : List ℕ) where
+  abbrev K : Forest ℕ
+  K = forestAt n fs ns (getD fs c 0)
+
+  abbrev Q : Forest ℕ
+  Q = forestAt n fs ns q
+
   -- rows other than c and p keep their links
-  other : (p v w x : ℕ) (F : Forest ℕ) → (In c F → ⊥) → (In p F → ⊥) → Linked n fs ns x F → Linked n fs (set (set ns c v) p w) x F
-  other p v w x F nc np h =
-      kept n fs ns fs (set (set ns c v) p w) F x
-      (λ j m. (refl, getD-set-other (set ns c v) p j w 0 (λ e. np (rw e at m)) ∙ getD-set-other ns c j v 0 (λ e. nc (rw e at m)))) h
+  other : (p v y x : ℕ) (F : Forest ℕ) → (In c F → ⊥) → (In p F → ⊥) → Linked n fs ns x F → Linked n fs (set (set ns c v) p y) x F
+  other p v y x F nc np h =
+      kept n fs ns fs (set (set ns c v) p y) F x
+      (λ j m. (refl, getD-set-other (set ns c v) p j y 0 (λ e. np (rw e at m)) ∙ getD-set-other ns c j v 0 (λ e. nc (rw e at m)))) h
 
   -- after the tree at p, or in front
   abbrev Lands : ℕ → ℕ → Forest ℕ → ℕ → Type 0
-  Lands q p₀ Q p =
-      ((p ≡ p₀) × (placeBy key c K Q ≡ tree c K Q)) ⊎ (In p Q × Linked n fs (set (set ns c (getD ns p 0)) p c) q (placeBy key c K Q))
+  Lands x p₀ F p =
+      ((p ≡ p₀) × (placeBy key c K F ≡ tree c K F)) ⊎ (In p F × Linked n fs (set (set ns c (getD ns p 0)) p c) x (placeBy key c K F))
 
-  lands : (Q : Forest ℕ) (q p₀ : ℕ) → Linked n fs ns q Q → Apart Q → (In c Q → ⊥) → ((j : ℕ) → In j K → In j Q → ⊥) → Lands q p₀ Q (spotOf key c K p₀ Q)
+  lands : (F : Forest ℕ) (x p₀ : ℕ) → Linked n fs ns x F → Apart F → (In c F → ⊥) → ((j : ℕ) → In j K → In j F → ⊥) → Lands x p₀ F (spotOf key c K p₀ F)
   unfolding spotOf placeBy
-  lands bare q p₀ h a cQ kQ = inl (refl, refl)
-  lands (tree b l r) q p₀ (e, lb, hl, hr) (bl, br, lr, al, ar) cQ kQ =
-      go (upTo (cmpT key c K b l)) (lands r (getD ns b 0) b hr ar (λ m. cQ (inr (inr m))) (λ j m m′. kQ j m (inr (inr m′))))
+  lands bare x p₀ h a cF kF = inl (refl, refl)
+  lands (tree b l r) x p₀ (e, lb, hl, hr) (bl, br, lr, al, ar) cF kF =
+      go (upTo (cmpT key c K b l)) (lands r (getD ns b 0) b hr ar (λ m. cF (inr (inr m))) (λ j m m′. kF j m (inr (inr m′))))
     where
       p′ : Bool → ℕ
       p′ t = cond t p₀ (spotOf key c K b r)
 
-      Q′ : Bool → Forest ℕ
-      Q′ t = cond t (tree c K (tree b l r)) (tree b l (placeBy key c K r))
+      F′ : Bool → Forest ℕ
+      F′ t = cond t (tree c K (tree b l r)) (tree b l (placeBy key c K r))
 
       go : (t : Bool) → Lands (getD ns b 0) b r (spotOf key c K b r)
-          → ((p′ t ≡ p₀) × (Q′ t ≡ tree c K (tree b l r))) ⊎ (In (p′ t) (tree b l r) × Linked n fs (set (set ns c (getD ns (p′ t) 0)) (p′ t) c) q (Q′ t))
+          → ((p′ t ≡ p₀) × (F′ t ≡ tree c K (tree b l r))) ⊎ (In (p′ t) (tree b l r) × Linked n fs (set (set ns c (getD ns (p′ t) 0)) (p′ t) c) x (F′ t))
       go true ih = inl (refl, refl)
       go false (inl (ep, er)) =
           let v = getD ns b 0 in
@@ -121,13 +127,13 @@ module _ (n : ℕ) (fs ns key : List ℕ) (c : ℕ) (K : Forest ℕ) (lc : c < n
             rw (ep, er) (
               e,
               lb,
-              other b v c (getD fs b 0) l (λ m. cQ (inr (inl m))) bl hl,
-              rw (getD-set-same (set ns c v) b c 0 (rw (length-set ns c v) (omega arith))) (
+              other b v c (getD fs b 0) l (λ m. cF (inr (inl m))) bl hl,
+              rw (getD-set-same (set ns c v) b c 0 (rw (length-set ns c v) (omega (arith, w .nexts)))) (
                 refl,
-                lc,
-                other b v c (getD fs c 0) K cK (λ m. kQ b m (inl refl)) hK,
-                rw (getD-set-other (set ns c v) b c c 0 (λ x. cQ (inl x)), getD-set-same ns c v 0 (omega arith))
-                    (other b v c v r (λ m. cQ (inr (inr m))) br hr),
+                w .inside,
+                other b v c (getD fs c 0) K (w .apart .0) (λ m. kF b m (inl refl)) (w .kids .holds),
+                rw (getD-set-other (set ns c v) b c c 0 (λ y. cF (inl y)), getD-set-same ns c v 0 (omega (arith, w .inside, w .nexts)))
+                    (other b v c v r (λ m. cF (inr (inr m))) br hr),
               ),
             ),
           )
@@ -138,56 +144,47 @@ module _ (n : ℕ) (fs ns key : List ℕ) (c : ℕ) (K : Forest ℕ) (lc : c < n
             (
               e,
               lb,
-              other p v c (getD fs b 0) l (λ x. cQ (inr (inl x))) (λ x. lr p x m) hl,
-              rw (getD-set-other (set ns c v) p b c 0 (λ x. br (rw x m)), getD-set-other ns c b v 0 (λ x. cQ (inl (sym x)))) h,
+              other p v c (getD fs b 0) l (λ y. cF (inr (inl y))) (λ y. lr p y m) hl,
+              rw (getD-set-other (set ns c v) p b c 0 (λ y. br (rw y m)), getD-set-other ns c b v 0 (λ y. cF (inl (sym y)))) h,
             ),
           )
 
-module _ {n : ℕ} {fs ns : List ℕ} {c q : ℕ} (w : Ready n fs ns c q) (key : List ℕ) {p : ℕ} (ep : p ≡ spotAt n fs ns key c q) where
-  abbrev K : Forest ℕ
-  K = forestAt n fs ns (getD fs c 0)
+  module _ {p : ℕ} (ep : p ≡ spotAt n fs ns key c q) where
+    landed : Lands q n Q p
+    unfolding spotAt
+    landed = rw ep (lands Q q n (w .list .holds) (w .apart .4) (w .apart .1) (w .apart .2))
 
-  abbrev Q : Forest ℕ
-  Q = forestAt n fs ns q
+    pub placed-front : n ≤ p → PutAmong n fs ns key c q (set ns c q) c
+    placed-front h = go landed
+      where
+        same : (F : Forest ℕ) (x : ℕ) → (In c F → ⊥) → Linked n fs ns x F → Linked n fs (set ns c q) x F
+        same F x d = kept n fs ns fs (set ns c q) F x (λ j m. (refl, getD-set-other ns c j q 0 (λ e. d (rw e at m))))
 
-  abbrev Landed : ℕ → Type 0
-  Landed x = Lands n fs ns key c K (w .inside) (w .nexts) (w .kids .holds) (w .apart .0) q n Q x
+        go : Lands q n Q p → PutAmong n fs ns key c q (set ns c q) c
+        go (inl (x, y)) = record {
+          linked = rw y (
+            refl,
+            w .inside,
+            same K (getD fs c 0) (w .apart .0) (w .kids .holds),
+            rw (getD-set-same ns c q 0 (omega (arith, w .inside, w .nexts))) (same Q q (w .apart .1) (w .list .holds)),
+          );
+          low = omega (arith, w .inside, w .few);
+          long = length-set ns c q;
+          rest = λ j jc jq. getD-set-other ns c j q 0 jc;
+        }
+        go (inr (m, y)) = absurd (omega (arith, in-lt n fs ns Q q p (w .list .holds) m))
 
-  landed : Landed p
-  unfolding spotAt
-  landed = rw ep (lands n fs ns key c K (w .inside) (w .nexts) (w .kids .holds) (w .apart .0) Q q n (w .list .holds) (w .apart .4) (w .apart .1) (w .apart .2))
-
-  pub placed-front : n ≤ p → PutAmong n fs ns key c q (set ns c q) c
-  placed-front h = go landed
-    where
-      same : (F : Forest ℕ) (x : ℕ) → (In c F → ⊥) → Linked n fs ns x F → Linked n fs (set ns c q) x F
-      same F x d = kept n fs ns fs (set ns c q) F x (λ j m. (refl, getD-set-other ns c j q 0 (λ e. d (rw e at m))))
-
-      go : Landed p → PutAmong n fs ns key c q (set ns c q) c
-      go (inl (x, y)) = record {
-        linked = rw y (
-          refl,
-          w .inside,
-          same K (getD fs c 0) (w .apart .0) (w .kids .holds),
-          rw (getD-set-same ns c q 0 (omega (arith, w .inside, w .nexts))) (same Q q (w .apart .1) (w .list .holds)),
-        );
-        low = omega (arith, w .inside, w .few);
-        long = length-set ns c q;
-        rest = λ j jc jq. getD-set-other ns c j q 0 jc;
-      }
-      go (inr (m, y)) = absurd (omega (arith, in-lt n fs ns Q q p (w .list .holds) m))
-
-  pub placed-after : p < n → PutAmong n fs ns key c q (set (set ns c (getD ns p 0)) p c) q
-  placed-after h = go landed
-    where
-      go : Landed p → PutAmong n fs ns key c q (set (set ns c (getD ns p 0)) p c) q
-      go (inl (x, y)) = absurd (omega arith)
-      go (inr (m, y)) = record {
-        linked = y;
-        low = w .low;
-        long = length-set (set ns c (getD ns p 0)) p c ∙ length-set ns c (getD ns p 0);
-        rest = λ j jc jq. getD-set-other (set ns c (getD ns p 0)) p j c 0 (λ x. jq (rw x m)) ∙ getD-set-other ns c j (getD ns p 0) 0 jc;
-      }
+    pub placed-after : p < n → PutAmong n fs ns key c q (set (set ns c (getD ns p 0)) p c) q
+    placed-after h = go landed
+      where
+        go : Lands q n Q p → PutAmong n fs ns key c q (set (set ns c (getD ns p 0)) p c) q
+        go (inl (x, y)) = absurd (omega arith)
+        go (inr (m, y)) = record {
+          linked = y;
+          low = w .low;
+          long = length-set (set ns c (getD ns p 0)) p c ∙ length-set ns c (getD ns p 0);
+          rest = λ j jc jq. getD-set-other (set ns c (getD ns p 0)) p j c 0 (λ x. jq (rw x m)) ∙ getD-set-other ns c j (getD ns p 0) 0 jc;
+        }
 
 -- ------------------------------------------------------------------ forests in order
 -- so is every row, with the number of its children

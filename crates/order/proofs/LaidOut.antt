@@ -144,6 +144,14 @@ module _ {code mark : List ℕ} {n : ℕ} {fs ns : List ℕ} {o : Out} where
   }
 
   module _ {at u x k : ℕ} (w : Laying code mark n fs ns o at u x k) where
+    -- the forest X comes next
+    abbrev Next : Forest ℕ → Type 0
+    Next X = Linked n fs ns x X × (at + size X + left (w .above) ≡ n) × (k + width X ≡ wide (w .above))
+        × ((o′ : Out) → Keeps o o′ at (w .above) → Shows code mark o′ u at X → Follows code mark o′ (at + size X) (w .above) → Shows code mark o′ noRow 0 (whole n fs ns))
+
+    comes : Next (w .next)
+    comes = (w .linked, w .total, w .counted, w .closes)
+
     -- ------------------------------------------------------------ down to the first child
     module _ (l : x < n) where
       abbrev down : Out
@@ -155,12 +163,12 @@ module _ {code mark : List ℕ} {n : ℕ} {fs ns : List ℕ} {o : Out} where
         up = set (o .up) at u;
       }
 
-      more : (X : Forest ℕ) → Linked n fs ns x X → at + size X + left (w .above) ≡ n → at < n
-      more bare h t = absurd (omega arith)
-      more (tree i K Z) h t = omega arith
-
       inside : at < n
-      inside = more (w .next) (w .linked) (w .total)
+      inside = go (w .next) comes
+        where
+          go : (X : Forest ℕ) → Next X → at < n
+          go bare (h, t, q, c) = absurd (omega arith)
+          go (tree i K Z) (h, t, q, c) = omega arith
 
       pub fits : at < mostNodes
       fits = omega (arith, inside, w .tagged .few)
@@ -169,7 +177,7 @@ module _ {code mark : List ℕ} {n : ℕ} {fs ns : List ℕ} {o : Out} where
       down-less = omega (arith, inside, fits)
 
       pub laying-down : {c : ℕ} → c ≡ getD fs x 0 → Laying code mark n fs ns down (at + 1) at c 0
-      laying-down e = rw (add-one at, e) (go (w .next) (w .linked) (w .total) (w .counted) (w .closes))
+      laying-down e = rw (add-one at, e) (go (w .next) comes)
         where
           before : (j : ℕ) → j < at → (getD (down .code) j 0 ≡ getD (o .code) j 0) × (getD (down .mark) j 0 ≡ getD (o .mark) j 0) × (getD (down .up) j 0 ≡ getD (o .up) j 0)
               × (getD (down .kids) j 0 ≡ getD (o .kids) j 0) × (getD (down .span) j 0 ≡ getD (o .span) j 0)
@@ -197,11 +205,9 @@ module _ {code mark : List ℕ} {n : ℕ} {fs ns : List ℕ} {o : Out} where
           tagged j h (yes q) = rw (q, here .0 .0, here .0 .1) (w .tagged .labels x l, w .tagged .marked x l)
           tagged j h (no q) = let b = before j (omega arith) in rw (b .0, b .1) (w .tags j (omega arith))
 
-          go : (X : Forest ℕ) → Linked n fs ns x X → at + size X + left (w .above) ≡ n → k + width X ≡ wide (w .above)
-              → ((o′ : Out) → Keeps o o′ at (w .above) → Shows code mark o′ u at X → Follows code mark o′ (at + size X) (w .above) → Shows code mark o′ noRow 0 (whole n fs ns))
-              → Laying code mark n fs ns down (suc at) at (getD fs x 0) 0
-          go bare h t q c = absurd (omega arith)
-          go (tree i K Z) (ei, li, hk, hz) t q c = record {
+          go : (X : Forest ℕ) → Next X → Laying code mark n fs ns down (suc at) at (getD fs x 0) 0
+          go bare (h, t, q, c) = absurd (omega arith)
+          go (tree i K Z) ((ei, li, hk, hz), t, q, c) = record {
             tagged = w .tagged;
             listed = w .listed;
             room = record {
@@ -247,27 +253,22 @@ module _ {code mark : List ℕ} {n : ℕ} {fs ns : List ℕ} {o : Out} where
 
     -- ------------------------------------------------------------ all below row u is laid out
     module _ (h : n ≤ x) where
-      abbrev Closes : Above → Type 0
-      Closes A = (o′ : Out) → Keeps o o′ at A → Follows code mark o′ at A → Shows code mark o′ noRow 0 (whole n fs ns)
-
       -- nothing comes next
       record Ended (A : Above) : Type 0 where
         total : at + left A ≡ n
         counted : k ≡ wide A
-        closes : Closes A
+        closes : (o′ : Out) → Keeps o o′ at A → Follows code mark o′ at A → Shows code mark o′ noRow 0 (whole n fs ns)
 
       ended : Ended (w .above)
-      ended = go (w .next) (w .linked) (w .total) (w .counted) (w .closes)
+      ended = go (w .next) comes
         where
-          go : (X : Forest ℕ) → Linked n fs ns x X → at + size X + left (w .above) ≡ n → k + width X ≡ wide (w .above)
-              → ((o′ : Out) → Keeps o o′ at (w .above) → Shows code mark o′ u at X → Follows code mark o′ (at + size X) (w .above) → Shows code mark o′ noRow 0 (whole n fs ns))
-              → Ended (w .above)
-          go (tree i K Z) (ei, li, hk, hz) t q c = absurd (omega arith)
-          go bare l t q c =
+          go : (X : Forest ℕ) → Next X → Ended (w .above)
+          go (tree i K Z) ((ei, li, hk, hz), t, q, c) = absurd (omega arith)
+          go bare (l, t, q, c) =
               let z : at + 0 ≡ at = omega arith in
               record { total = omega arith; counted = omega arith; closes = λ o′ g f. c o′ g tt (rw z f) }
 
-      pub laid-all : u ≡ noRow → (at ≡ n) × Shows code mark o noRow 0 (whole n fs ns)
+      laid-all : u ≡ noRow → (at ≡ n) × Shows code mark o noRow 0 (whole n fs ns)
       laid-all e = go (w .above) (w .under) (w .waits) ended
         where
           go : (A : Above) → u ≡ lowest A → Waits n fs ns o at A → Ended A → (at ≡ n) × Shows code mark o noRow 0 (whole n fs ns)

@@ -78,6 +78,16 @@ module _ {parent code mark : List ℕ} {n : ℕ} {fs ns key : List ℕ} (W : Sor
   up : (b x : ℕ) → j ≤ b → Known j x → Known b x
   up b x = known-later j b x
 
+  kp′ : Known (suc j) p
+  kp′ = up (suc j) p (omega arith) kp
+
+  -- what lies below row j, and its later brothers
+  abbrev D : Forest ℕ
+  D = from (suc j) j
+
+  abbrev E : Forest ℕ
+  E = from (suc j) p
+
   -- a slot of a row before j, or of no row, is none of the rows from j on
   slot-off : (x y : ℕ) → Known j x → j ≤ y → y < n → y ≡ slotOf n x → ⊥
   slot-off x y (inl u) a b e = let z = slot-row n x (omega arith) in omega arith
@@ -89,23 +99,23 @@ module _ {parent code mark : List ℕ} {n : ℕ} {fs ns key : List ℕ} (W : Sor
   one-more : n - j ≡ suc (n - suc j)
   one-more = omega arith
 
-  list-open : from j p ≡ tree j (from (suc j) j) (from (suc j) p)
+  list-open : from j p ≡ tree j D E
   list-open = rw one-more (below-open parent (n - suc j) j p true (eq-eqb p p refl))
 
   list-same : (x : ℕ) → (p ≡ x → ⊥) → from j x ≡ from (suc j) x
   list-same x d = rw one-more (below-open parent (n - suc j) j x false (ne-eqb p x d))
 
-  apart : Apart (tree j (from (suc j) j) (from (suc j) p))
+  apart : Apart (tree j D E)
   apart = rw list-open at (apart-below parent (n - j) j p (omega (arith, T .few)) kp)
 
-  room : size (tree j (from (suc j) j) (from (suc j) p)) ≤ n
+  room : size (tree j D E) ≤ n
   room = rw list-open at (few T (W .order) j (n - j) p (omega arith) kp)
 
   -- a row of these lists comes after j
   later : (x y : ℕ) → In y (from (suc j) x) → (suc j ≤ y) × (y < n)
   later x y m = let z = in-range parent (n - suc j) (suc j) x y m in (z .0, omega (arith, z .1))
 
-  count-here : getD ns j 0 ≡ width (from (suc j) j)
+  count-here : getD ns j 0 ≡ width D
   count-here = rw (← slot-row n j l) at (S .counts j (inl (omega arith)))
 
   -- v is its key, and h is the first of its later brothers
@@ -118,22 +128,22 @@ module _ {parent code mark : List ℕ} {n : ℕ} {fs ns key : List ℕ} (W : Sor
     same-order x = order-agree key key′ (from (suc j) x) (λ y m. getD-set-other key j y v 0 (λ e. omega (arith, later x y m .0)))
 
     abbrev k : Forest ℕ
-    k = orderedBy key′ (from (suc j) j)
+    k = orderedBy key′ D
 
     abbrev r : Forest ℕ
-    r = orderedBy key′ (from (suc j) p)
+    r = orderedBy key′ E
 
     linked-k : Linked n fs ns (getD fs j 0) k
     linked-k = rw (same-order j) (rw (← slot-row n j l) at (S .lists j (inl (omega arith))))
 
     linked-r : Linked n fs ns h r
-    linked-r = rw (same-order p, eh, es) (S .lists p (up (suc j) p (omega arith) kp))
+    linked-r = rw (same-order p, eh, es) (S .lists p kp′)
 
     small-k : size k ≤ n
-    small-k = rw (size-orderedBy key′ (from (suc j) j)) (omega (arith, room))
+    small-k = rw (size-orderedBy key′ D) (omega (arith, room))
 
     small-r : size r ≤ n
-    small-r = rw (size-orderedBy key′ (from (suc j) p)) (omega (arith, room))
+    small-r = rw (size-orderedBy key′ E) (omega (arith, room))
 
     k-is : forestAt n fs ns (getD fs j 0) ≡ k
     k-is = read-is n fs ns (getD fs j 0) k linked-k small-k
@@ -149,24 +159,24 @@ module _ {parent code mark : List ℕ} {n : ℕ} {fs ns key : List ℕ} (W : Sor
       low = low;
       kids = finite-of n fs ns (getD fs j 0) k linked-k small-k;
       list = finite-of n fs ns h r linked-r small-r;
-      apart = rw (k-is, r-is) (apart-both key′ j (from (suc j) j) (from (suc j) p) apart);
-      room = rw (k-is, r-is, size-orderedBy key′ (from (suc j) j), size-orderedBy key′ (from (suc j) p)) room;
+      apart = rw (k-is, r-is) (apart-both key′ j D E apart);
+      room = rw (k-is, r-is, size-orderedBy key′ D, size-orderedBy key′ E) room;
     }
 
     module _ {ns′ : List ℕ} {f : ℕ} (P : PutAmong n fs ns (set key j v) j h ns′ f) where
       -- only rows of the list were linked anew
-      same-next : (y : ℕ) → (y ≡ j → ⊥) → (In y (from (suc j) p) → ⊥) → getD ns′ y 0 ≡ getD ns y 0
-      same-next y a b = P .rest y a (λ m. b (in-orderedBy key′ (from (suc j) p) y (rw r-is at m)))
+      same-next : (y : ℕ) → (y ≡ j → ⊥) → (In y E → ⊥) → getD ns′ y 0 ≡ getD ns y 0
+      same-next y a b = P .rest y a (λ m. b (in-orderedBy key′ E y (rw r-is at m)))
 
       same-slots : (x : ℕ) → Known j x → getD ns′ (slotOf n x) 0 ≡ getD ns (slotOf n x) 0
       same-slots x kx =
           same-next (slotOf n x) (λ e. slot-off x j kx (omega arith) l (sym e)) (λ m. let z = later p (slotOf n x) m in slot-off x (slotOf n x) kx (omega (arith, z .0)) (z .1) refl)
 
-      count-is : getD ns′ s 0 ≡ width (from (suc j) p)
-      count-is = rw es (same-slots p kp ∙ S .counts p (up (suc j) p (omega arith) kp))
+      count-is : getD ns′ s 0 ≡ width E
+      count-is = rw es (same-slots p kp ∙ S .counts p kp′)
 
       pub count-fits : getD ns′ s 0 + 1 < 65536
-      count-fits = omega (arith, count-is, width-size (from (suc j) p), few T (W .order) (suc j) (n - suc j) p (omega arith) (up (suc j) p (omega arith) kp), T .few)
+      count-fits = omega (arith, count-is, width-size E, room, T .few)
 
       module _ (ev : v ≡ keyOf (getD code j 0) (getD mark j 0) (getD ns j 0)) where
         abbrev fs″ : List ℕ
@@ -197,7 +207,7 @@ module _ {parent code mark : List ℕ} {n : ℕ} {fs ns key : List ℕ} (W : Sor
             let i = in-orderedBy key′ (from (suc j) x) y m in let z = later x y i in let e = same y (omega (arith, z .0)) (z .1) in (
               e .0,
               e .1 ∙ same-next y (λ q. omega (arith, z .0))
-                  (λ o. d (sym (unique parent (n - suc j) (suc j) x p y (omega (arith, T .few)) kx′ (up (suc j) p (omega arith) kp) i o))),
+                  (λ o. d (sym (unique parent (n - suc j) (suc j) x p y (omega (arith, T .few)) kx′ kp′ i o))),
             ))
             (rw (same-order x) (S .lists x kx′))
             )
