@@ -22,7 +22,7 @@ use Rattle.branches.proofs.+branch+chain.Lts-chain as chain-lts
 use Rattle.branches.proofs.join.Reads as join
 use Rattle.branches.proofs.put_label.Reads as label
 use Rattle.branches.proofs.put_sign.Reads as sign
-use Rattle.rows.proofs.wide.Reads as wide
+use Rattle.rows.proofs.at.Reads as at
 use Rattle.groups.proofs.put_byte.Reads as byte
 use Rattle.branches.proofs.+branch+chain.{statement}
 use Rattle.branches.proofs.+branch+chain.Tie.{close}
@@ -65,7 +65,7 @@ pub +branch+chain-spec : {M : Type 1} → statement M
     (λ c.
     let p = c .before .before in let k = p .before .before .before .before in
     branch-done (k .before .before .before .pre .1 .0) (k .chain .ensures) (record { place = p .put-byte .ensures .0; bytes = p .put-byte .ensures .1 })))
-    λ t. chain-lts.spec (sign.Asked, sign.Learnt, label.Asked, label.Learnt, chain-below t, chain.Post, wide.Asked, wide.Learnt, branch-below t, branch.Post, join.Asked, join.Learnt) (chain-at t) chain.Post chain-Inv-loop chain-μ-loop
+    λ t. chain-lts.spec (sign.Asked, sign.Learnt, label.Asked, label.Learnt, chain-below t, chain.Post, at.Asked, at.Learnt, branch-below t, branch.Post, join.Asked, join.Learnt) (chain-at t) chain.Post chain-Inv-loop chain-μ-loop
     (λ c κs. let s = c .before .before in child-fits (s .pre .1 .0) (s .args .room .now) (s .pre .1 .1) (s .pre .1 .2))
     (λ c κs.
     let p = c .before .before .before in let s = p .before .before .before in
@@ -90,49 +90,45 @@ pub +branch+chain-spec : {M : Type 1} → statement M
     let p1 = p .before .before .before .before in let s = p1 .before .before .before in
     let (R, le, f) = s .pre .1 in
     chain-on R (s .args .room .now) le (p1 .put-sign .ensures) (p .put-label .ensures) (i .if1 .taken) (k .chain .ensures))
-    (λ c. omega (arith, row-few (c .before .before .before .before .before .before .before .before .before .before .before .pre .1 .0)))
-    (λ c. row-few (c .before .before .before .before .before .before .before .before .before .before .before .pre .1 .0))
-    (λ c κs. search needs)
-    (λ c. omega (arith, row-few (c .before .before .before .before .before .before .before .before .before .before .before .before .before .pre .1 .0), c .wide .ensures .1))
-    (λ c. omega (arith, row-few (c .before .before .before .before .before .before .before .before .before .before .before .before .before .pre .1 .0)))
+    (λ c κs. row-few (c .before .before .before .before .before .before .before .before .before .before .before .pre .1 .0))
+    (λ c. omega (arith, row-few (c .before .before .before .before .before .before .before .before .before .before .before .before .pre .1 .0), c .at .ensures .1))
+    (λ c. omega (arith, row-few (c .before .before .before .before .before .before .before .before .before .before .before .before .pre .1 .0)))
     (λ c.
-    let p = c .before .before .before .before .before .before in let p1 = p .before .before .before .before in
+    let p = c .before .before .before .before .before in let p1 = p .before .before .before .before in
     let s = p1 .before .before .before in
     let (R, le, f) = s .pre .1 in
     let from-end = onward-reached R (s .args .room .now) le (p1 .put-sign .ensures) (p .put-label .ensures) in (
       omega arith,
-      rw (c .wide .ensures .0) refl,
-      rw (c .wide .ensures .0) (more-start R _ _ _ from-end (c .before .before .if1 .left)),
+      rw (c .at .ensures .0) refl,
+      rw (c .at .ensures .0) (more-start R _ _ _ from-end (c .before .if1 .left)),
       onward-fits R
           (s .args .room .now) le (p1 .put-sign .ensures) (p .put-label .ensures) f,
     ))
     (λ c κs.
     let t = c .before in let h = t .before in
-    let s = h .before .before .before .before .before .before .before .before .before .before .before .before .before .before in
+    let s = h .before .before .before .before .before .before .before .before .before .before .before .before .before in
     let (uc, es, O, f) = h .loop .inv in let m = t .loop-test .taken in
     (omega (arith, s .pre .0, off-row O m .inside), (row-in (s .pre .1 .0) (h .loop .c) (omega arith), later-branch O uc m f)))
     (λ c κs.
     let b = c .before .before .before in let t = b .before .before in
     let (uc, es, O, f) = t .before .loop .inv in later-joint O uc (t .loop-test .taken) f (b .branch .ensures))
-    (λ c. let t = c .before .before .before .before .before .before .before .before in omega (arith, t .before .loop .inv .2 .few, t .loop-test .taken))
-    (λ c. let t = c .before .before .before .before .before .before .before .before in omega (arith, t .before .loop .inv .2 .few, t .loop-test .taken))
-    (λ c κs. search needs)
-    (λ c. let t = c .before .before .before .before .before .before .before .before .before .before in omega (arith, t .before .loop .inv .2 .few, t .loop-test .taken, c .wide2 .ensures .1))
+    (λ c κs. let t = c .before .before .before .before .before .before .before .before in omega (arith, t .before .loop .inv .2 .few, t .loop-test .taken))
+    (λ c. let t = c .before .before .before .before .before .before .before .before .before in omega (arith, t .before .loop .inv .2 .few, t .loop-test .taken, c .at2 .ensures .1))
     (λ c.
-    let t = c .before .before .before .before .before .before .before .before .before .before in
-    omega (arith, off-row (t .before .loop .inv .2) (t .loop-test .taken) .some, c .wide2 .ensures .0, t .loop-test .taken))
+    let t = c .before .before .before .before .before .before .before .before .before in
+    omega (arith, off-row (t .before .loop .inv .2) (t .loop-test .taken) .some, c .at2 .ensures .0, t .loop-test .taken))
     (λ c.
-    let j = c .before .before .before .before in let b = j .before .before .before .before in let t = b .before .before in
+    let j = c .before .before .before in let b = j .before .before .before .before in let t = b .before .before in
     let (uc, es, O, f) = t .before .loop .inv in
-    (omega arith, es, rw (c .wide2 .ensures .0) (later-next O uc (t .loop-test .taken) (b .branch .ensures) (j .join .ensures)), f))
+    (omega arith, es, rw (c .at2 .ensures .0) (later-next O uc (t .loop-test .taken) (b .branch .ensures) (j .join .ensures)), f))
     (λ c.
-    let p = c .before .before .before .before .before .before .before .before in let p1 = p .before .before .before .before in
+    let p = c .before .before .before .before .before .before .before in let p1 = p .before .before .before .before in
     let s = p1 .before .before .before in
     let (R, le, f) = s .pre .1 in
     written-length (chain-done R (s .args .room .now) le (p1 .put-sign .ensures) (p .put-label .ensures)
     (left-end (off-end (c .before .loop .inv .2) (c .loop-test .left)))))
     (λ c.
-    let p = c .before .before .before .before .before .before .before .before in let p1 = p .before .before .before .before in
+    let p = c .before .before .before .before .before .before .before in let p1 = p .before .before .before .before in
     let s = p1 .before .before .before in
     let (R, le, f) = s .pre .1 in
     chain-done R (s .args .room .now) le (p1 .put-sign .ensures) (p .put-label .ensures) (left-end

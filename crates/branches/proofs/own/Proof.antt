@@ -28,41 +28,35 @@ own-spec =
     let s = c .before .before in
     let (R, le, f) = s .pre in
     (row-few R, R .rows .labels (s .args .u) (R .within), own-label R _ _ (s .args .room .now) le f))
-    (λ c. omega (arith, row-few (c .before .before .before .before .before .pre .0)))
-    (λ c. row-few (c .before .before .before .before .before .pre .0))
-    (λ c κs. search needs)
-    (λ c. omega (arith, row-few (c .before .before .before .before .before .before .before .pre .0), c .wide .ensures .1))
-    (λ c. omega (arith, row-few (c .before .before .before .before .before .before .before .pre .0)))
+    (λ c κs. row-few (c .before .before .before .before .before .pre .0))
+    (λ c. omega (arith, row-few (c .before .before .before .before .before .before .pre .0), c .at .ensures .1))
+    (λ c. omega (arith, row-few (c .before .before .before .before .before .before .pre .0)))
     (λ c.
-    let p = c .before .before .before .before in let s = p .before .before .before in
+    let p = c .before .before .before in let s = p .before .before .before in
     let (R, le, f) = s .pre in (
       omega arith,
-      rw (c .wide .ensures .0) refl,
-      rw (c .wide .ensures .0)
-          (own-start R _ _ (s .args .room .now) le (p .put-label .ensures)),
+      rw (c .at .ensures .0) refl,
+      rw (c .at .ensures .0) (own-start R _ _ (s .args .room .now) le (p .put-label .ensures)),
       own-rest R _ _ (s .args .room .now) le (p .put-label .ensures) f,
     ))
     (λ c κs.
     let t = c .before in let h = t .before in
     let (uc, es, O, f) = h .loop .inv in
-    let s = h .before .before .before .before .before .before .before .before in
-    (row-in (s .pre .0) (h .loop .c) (omega (arith, t .loop-test .taken)), off-fits O (t .loop-test .taken) f))
-    (λ c. let t = c .before .before .before .before in omega (arith, t .before .loop .inv .2 .few, t .loop-test .taken))
-    (λ c. let t = c .before .before .before .before in omega (arith, t .before .loop .inv .2 .few, t .loop-test .taken))
-    (λ c κs. search needs)
-    (λ c. let t = c .before .before .before .before .before .before in omega (arith, t .before .loop .inv .2 .few, t .loop-test .taken, c .wide2 .ensures .1))
+    (row-in (h .before .before .before .before .before .before .before .pre .0) (h .loop .c) (omega (arith, t .loop-test .taken)), off-fits O (t .loop-test .taken) f))
+    (λ c κs. let t = c .before .before .before .before in omega (arith, t .before .loop .inv .2 .few, t .loop-test .taken))
+    (λ c. let t = c .before .before .before .before .before in omega (arith, t .before .loop .inv .2 .few, t .loop-test .taken, c .at2 .ensures .1))
     (λ c.
-    let t = c .before .before .before .before .before .before in
-    omega (arith, off-row (t .before .loop .inv .2) (t .loop-test .taken) .some, c .wide2 .ensures .0, t .loop-test .taken))
+    let t = c .before .before .before .before .before in
+    omega (arith, off-row (t .before .loop .inv .2) (t .loop-test .taken) .some, c .at2 .ensures .0, t .loop-test .taken))
     (λ c.
-    let p = c .before .before .before .before in let t = p .before .before in
+    let p = c .before .before .before in let t = p .before .before in
     let (uc, es, O, f) = t .before .loop .inv in
-    (omega arith, es, rw (c .wide2 .ensures .0) (off-next O (t .loop-test .taken) (p .put-off .ensures)), f))
+    (omega arith, es, rw (c .at2 .ensures .0) (off-next O (t .loop-test .taken) (p .put-off .ensures)), f))
     (λ c.
-    let p = c .before .before .before .before .before .before in let s = p .before .before .before in
+    let p = c .before .before .before .before .before in let s = p .before .before .before in
     let (R, le, f) = s .pre in
     written-length (own-done R _ _ (s .args .room .now) le (p .put-label .ensures) (c .before .loop .inv .2) (c .loop-test .left)))
     (λ c.
-    let p = c .before .before .before .before .before .before in let s = p .before .before .before in
+    let p = c .before .before .before .before .before in let s = p .before .before .before in
     let (R, le, f) = s .pre in
     own-done R _ _ (s .args .room .now) le (p .put-label .ensures) (c .before .loop .inv .2) (c .loop-test .left)))
