@@ -18,8 +18,7 @@ use Rattle.groups.specs.Put.{Written}
 use Rattle.branches.specs.Joining.{joint, fill, factor}
 use Rattle.branches.specs.Factors.{Row, tagged, under, labelAt, onwardAt, chainAt, offAt, branchesAt, ownAt}
 use Rattle.branches.proofs.Joining.{fill-nil, fill-one, fill-child, fill-first, factor-first, factor-rest, factor-then, written-is}
-use Rattle.branches.proofs.Joining.{written-then, written-length, written-reached, Left, left-start, left-is, left-fits, left-step}
-use Rattle.branches.proofs.Joining.{first-fits, rest-fits, rest-done, left-end}
+use Rattle.branches.proofs.Joining.{written-then, written-length, Left, left-start, left-is, left-done, left-end, left-fits, left-step}
 use Rattle.branches.proofs.Covers.{either-covers, covers-before}
 
 pub labelled-append : (l : Lab) (xs : List Expr) → labelled l xs ≡ labelled l [] ++ xs
@@ -91,56 +90,48 @@ module _ (code span : List ℕ) (x y : ℕ) where
       go false E = refl
 
   -- A loop over the children of a row: those from row c up to row e are left, and their factors.
-  pub record Off (c e : ℕ) (d₀ : List ℕ) (from at₀ : ℕ) (xs : List Expr) (d : List ℕ) (at : ℕ) : Type 0 where
+  pub record Off (kids : List ℕ) (c e : ℕ) (d₀ : List ℕ) (from at₀ : ℕ) (xs : List Expr) (d : List ℕ) (at : ℕ) : Type 0 where
     pub forest : Forest ℕ
     pub held : Holds span c e forest
-    pub few : e ≤ mostNodes
+    pub row : (j : ℕ) → j < e → Row code kids span j
     pub left : Left d₀ from at₀ xs d at (off eitherIn (mapT (tagged code x y) forest) [])
 
-module _ {code span : List ℕ} {x y : ℕ} where
-  pub off-start : {kids : List ℕ} {u : ℕ} {d₀ : List ℕ} {from at₀ : ℕ} {xs : List Expr} {d : List ℕ} {at : ℕ} → Row code kids span u
-      → Left d₀ from at₀ xs d at (branchesAt code span x y u) → Off code span x y (u + 1) (u + getD span u 0) d₀ from at₀ xs d at
+module _ {code kids span : List ℕ} {x y : ℕ} where
+  pub off-start : {u : ℕ} {d₀ : List ℕ} {from at₀ : ℕ} {xs : List Expr} {d : List ℕ} {at : ℕ} → Row code kids span u
+      → Left d₀ from at₀ xs d at (branchesAt code span x y u) → Off code span x y kids (u + 1) (u + getD span u 0) d₀ from at₀ xs d at
   unfolding under branchesAt
-  off-start {kids} {u} R w = let z : u + 1 ≡ suc u = omega arith in rw z (record { forest = below span u; held = row-open R .held; few = row-stop R; left = w })
+  off-start {u} R w = let z : u + 1 ≡ suc u = omega arith in rw z (record { forest = below span u; held = row-open R .held; row = row-in R; left = w })
 
-  module _ {c e : ℕ} {d₀ : List ℕ} {from at₀ : ℕ} {xs : List Expr} {d : List ℕ} {at : ℕ} (O : Off code span x y c e d₀ from at₀ xs d at) where
-    -- row c is the first of them
-    pub off-row : c < e → Opens span c e
-    off-row l = go (O .forest) (O .held)
-      where
-        go : (F : Forest ℕ) → Holds span c e F → Opens span c e
-        go bare h = absurd (omega arith)
-        go (tree i k r) h = holds-first span c e i k r h .1
+  module _ {c e : ℕ} {d₀ : List ℕ} {from at₀ : ℕ} {xs : List Expr} {d : List ℕ} {at : ℕ} (O : Off code span x y kids c e d₀ from at₀ xs d at) where
+    module _ (l : c < e) where
+      -- row c is the first of them
+      off-here : (r : Forest ℕ) × Opens span c e × Holds span (c + getD span c 0) e r
+          × Left d₀ from at₀ xs d at (offAt code span x y c ++ off eitherIn (mapT (tagged code x y) r) [])
+      off-here = go (O .forest) (O .held) (O .left)
+        where
+          go : (F : Forest ℕ) → Holds span c e F → Left d₀ from at₀ xs d at (off eitherIn (mapT (tagged code x y) F) [])
+              → (r : Forest ℕ) × Opens span c e × Holds span (c + getD span c 0) e r
+              × Left d₀ from at₀ xs d at (offAt code span x y c ++ off eitherIn (mapT (tagged code x y) r) [])
+          go bare h w = absurd (omega arith)
+          go (tree i k r) h w = let z = holds-first span c e i k r h in (r, z .1, z .2, left-is (off-first code span x y c e i k r h) w)
 
-    pub off-fits : c < e → at₀ + length (fill from at₀ xs) ≤ length d₀ → at + length (fill from at (offAt code span x y c)) ≤ length d
-    off-fits l = go (O .forest) (O .held) (O .left)
-      where
-        go : (F : Forest ℕ) → Holds span c e F → Left d₀ from at₀ xs d at (off eitherIn (mapT (tagged code x y) F) [])
-            → at₀ + length (fill from at₀ xs) ≤ length d₀ → at + length (fill from at (offAt code span x y c)) ≤ length d
-        go bare h w = absurd (omega arith)
-        go (tree i k r) h w = left-fits (offAt code span x y c) _ (left-is (off-first code span x y c e i k r h) w)
+      pub off-opens : Opens span c e
+      off-opens = off-here .1
 
-    pub off-next : {d₁ : List ℕ} {a : ℕ} → c < e → Written d at (fill from at (offAt code span x y c)) d₁ a
-        → Off code span x y (c + getD span c 0) e d₀ from at₀ xs d₁ a
-    off-next {d₁} {a} l v = go (O .forest) (O .held) (O .left)
-      where
-        go : (F : Forest ℕ) → Holds span c e F → Left d₀ from at₀ xs d at (off eitherIn (mapT (tagged code x y) F) [])
-            → Off code span x y (c + getD span c 0) e d₀ from at₀ xs d₁ a
-        go bare h w = absurd (omega arith)
-        go (tree i k r) h w =
-            record {
-              forest = r;
-              held = holds-first span c e i k r h .2;
-              few = O .few;
-              left = left-step (offAt code span x y c) _ (left-is (off-first code span x y c e i k r h) w) v;
-            }
+      pub off-fits : at + length (fill from at (offAt code span x y c)) ≤ length d
+      off-fits = left-fits (offAt code span x y c) _ (off-here .3)
 
-    pub off-end : e ≤ c → Left d₀ from at₀ xs d at []
+      pub off-next : {d₁ : List ℕ} {a : ℕ} → Written d at (fill from at (offAt code span x y c)) d₁ a
+          → Off code span x y kids (c + getD span c 0) e d₀ from at₀ xs d₁ a
+      off-next v = let (r, o, h, w) = off-here in record { forest = r; held = h; row = O .row; left = left-step (offAt code span x y c) _ w v }
+
+    pub off-end : e ≤ c → Written d₀ at₀ (fill from at₀ xs) d at
     unfolding mapT
     off-end l = go (O .forest) (O .held) (O .left)
       where
-        go : (F : Forest ℕ) → Holds span c e F → Left d₀ from at₀ xs d at (off eitherIn (mapT (tagged code x y) F) []) → Left d₀ from at₀ xs d at []
-        go bare h w = w
+        go : (F : Forest ℕ) → Holds span c e F → Left d₀ from at₀ xs d at (off eitherIn (mapT (tagged code x y) F) [])
+            → Written d₀ at₀ (fill from at₀ xs) d at
+        go bare h w = left-end w
         go (tree i k r) h w = let s = size-holds span c e (tree i k r) h in absurd (omega arith)
 
 -- ------------------------------------------------------------------ chains
@@ -181,9 +172,9 @@ module _ {code kids span : List ℕ} {u : ℕ} (R : Row code kids span u) where
   unfolding onwardAt branchesAt under
   onward-more e = more-onward code span u _ (below span u) (row-open R .held) (λ w. e (row-width R ∙ w))
 
-  pub more-start : (d : List ℕ) (from at : ℕ) → from ≤ at → (getD kids u 0 ≡ 1 → ⊥)
-      → Off code span u u (u + 1) (u + getD span u 0) d from at (onwardAt code span u) d at
-  more-start d from at l e = off-start R (left-start d from at _ _ (onward-more e) l)
+  pub more-start : {d : List ℕ} {from at : ℕ} → from ≤ at → at + length (fill from at (onwardAt code span u)) ≤ length d → (getD kids u 0 ≡ 1 → ⊥)
+      → Off code span u u kids (u + 1) (u + getD span u 0) d from at (onwardAt code span u) d at
+  more-start l f e = off-start R (left-is (onward-more e) (left-start l f))
 
   -- the rows below row u
   pub row-below : (c : ℕ) → u < c → c < u + getD span u 0 → (1 ≤ getD span c 0) × (c + getD span c 0 ≤ u + getD span u 0)
@@ -198,39 +189,22 @@ module _ {code kids span : List ℕ} {u : ℕ} (R : Row code kids span u) where
 
 -- ------------------------------------------------------------------ writing a chain
 -- child, the label, and then what goes on below
-module _ {code kids span : List ℕ} {u : ℕ} (R : Row code kids span u) (d : List ℕ) {from at : ℕ} (le : from ≤ at) where
-  abbrev label-on : List Expr
-  label-on = labelAt code u ++ onwardAt code span u
+module _ (code span : List ℕ) (u : ℕ) (d : List ℕ) {from at : ℕ} (le : from ≤ at) (l : at + length (fill from at (chainAt code span u)) ≤ length d) where
+  L₀ : Left d from at (chainAt code span u) d at ((child ∷ []) ++ (labelAt code u ++ onwardAt code span u))
+  L₀ = left-is (chain-parts code span u) (left-start le l)
 
-  pub child-fits : at + length (fill from at (chainAt code span u)) ≤ length d → at + length (factor from at (num 2)) ≤ length d
-  child-fits l = rw (← fill-child from at) (first-fits (child ∷ []) label-on (chain-parts code span u) d le l)
+  pub child-fits : at + length (factor from at (num 2)) ≤ length d
+  child-fits = rw (← fill-child from at) (left-fits (child ∷ []) _ L₀)
 
   module _ {d₁ : List ℕ} {a : ℕ} (v : Written d at (factor from at (num 2)) d₁ a) where
-    v′ : Written d at (fill from at (child ∷ [])) d₁ a
-    v′ = written-is (sym (fill-child from at)) v
+    L₁ : Left d from at (chainAt code span u) d₁ a (labelAt code u ++ onwardAt code span u)
+    L₁ = left-step (child ∷ []) _ L₀ (written-is (sym (fill-child from at)) v)
 
-    below-fits : at + length (fill from at (chainAt code span u)) ≤ length d → a + length (fill from a label-on) ≤ length d₁
-    below-fits l = rest-fits (child ∷ []) label-on (chain-parts code span u) d le v′ l
+    pub label-fits : a + length (fill from a (labelAt code u)) ≤ length d₁
+    label-fits = left-fits (labelAt code u) _ L₁
 
-    pub label-fits : at + length (fill from at (chainAt code span u)) ≤ length d → a + length (fill from a (labelAt code u)) ≤ length d₁
-    label-fits l = first-fits (labelAt code u) (onwardAt code span u) refl d₁ (written-reached le v) (below-fits l)
-
-    module _ {d₂ : List ℕ} {b : ℕ} (w : Written d₁ a (fill from a (labelAt code u)) d₂ b) where
-      pub onward-reached : from ≤ b
-      onward-reached = written-reached (written-reached le v) w
-
-      pub onward-fits : at + length (fill from at (chainAt code span u)) ≤ length d → b + length (fill from b (onwardAt code span u)) ≤ length d₂
-      onward-fits l = rest-fits (labelAt code u) (onwardAt code span u) refl d₁ (written-reached le v) w (below-fits l)
-
-      pub chain-done : {d₃ : List ℕ} {r : ℕ} → Written d₂ b (fill from b (onwardAt code span u)) d₃ r
-          → Written d at (fill from at (chainAt code span u)) d₃ r
-      chain-done z =
-          rest-done (child ∷ []) label-on (chain-parts code span u) d le v′
-          (rest-done (labelAt code u) (onwardAt code span u) refl d₁ (written-reached le v) w z)
-
-      pub chain-on : {d₃ : List ℕ} {r : ℕ} → getD kids u 0 ≡ 1 → Written d₂ b (fill from b (chainAt code span (u + 1))) d₃ r
-          → Written d at (fill from at (chainAt code span u)) d₃ r
-      chain-on e z = chain-done (written-is (ap (fill from b) (sym (onward-one R e))) z)
+    pub label-done : {d₂ : List ℕ} {b : ℕ} → Written d₁ a (fill from a (labelAt code u)) d₂ b → Left d from at (chainAt code span u) d₂ b (onwardAt code span u)
+    label-done w = left-step (labelAt code u) _ L₁ w
 
 -- ------------------------------------------------------------------ writing a branch
 -- "A branch is written as a chain", under one first projection
@@ -273,21 +247,20 @@ module _ (code span : List ℕ) (x y c from at : ℕ) (ex : covers span c x ≡ 
         let s = written-length v in factor-rest from at (wordOf (branch (chainAt code span c))) (length d₁) a (v .place) (omega (arith, l′))
 
 -- a later brother than u is off the way to u
-module _ {code span : List ℕ} {u c e : ℕ} {d₀ : List ℕ} {from at₀ : ℕ} {xs : List Expr} {d : List ℕ} {at : ℕ}
-    (O : Off code span u u c e d₀ from at₀ xs d at) (l : u < c) (m : c < e) where
+module _ {code kids span : List ℕ} {u c e : ℕ} {d₀ : List ℕ} {from at₀ : ℕ} {xs : List Expr} {d : List ℕ} {at : ℕ}
+    (O : Off code span u u kids c e d₀ from at₀ xs d at) (l : u < c) (m : c < e) where
   before : covers span c u ≡ false
   before = covers-before span c u l
 
-  pub later-branch : at₀ + length (fill from at₀ xs) ≤ length d₀ → at + length (wordOf (branch (chainAt code span c))) ≤ length d
-  later-branch f = branch-fits code span u u c from at before before d (off-fits O m f)
+  pub later-branch : at + length (wordOf (branch (chainAt code span c))) ≤ length d
+  later-branch = branch-fits code span u u c from at before before d (off-fits O m)
 
-  pub later-joint : {d₁ : List ℕ} {a : ℕ} → at₀ + length (fill from at₀ xs) ≤ length d₀ → Written d at (wordOf (branch (chainAt code span c))) d₁ a
-      → a + length (joint (ltb from at)) ≤ length d₁
-  later-joint f v = joint-fits code span u u c from at before before d (off-fits O m f) v
+  module _ {d₁ : List ℕ} {a : ℕ} (v : Written d at (wordOf (branch (chainAt code span c))) d₁ a) where
+    pub later-joint : a + length (joint (ltb from at)) ≤ length d₁
+    later-joint = joint-fits code span u u c from at before before d (off-fits O m) v
 
-  pub later-next : {d₁ d₂ : List ℕ} {a r : ℕ} → Written d at (wordOf (branch (chainAt code span c))) d₁ a → Written d₁ a (joint (ltb from at)) d₂ r
-      → Off code span u u (c + getD span c 0) e d₀ from at₀ xs d₂ r
-  later-next v w = off-next O m (off-done code span u u c from at before before d v w)
+    pub later-next : {d₂ : List ℕ} {r : ℕ} → Written d₁ a (joint (ltb from at)) d₂ r → Off code span u u kids (c + getD span c 0) e d₀ from at₀ xs d₂ r
+    later-next w = off-next O m (off-done code span u u c from at before before d v w)
 
 module _ (code span : List ℕ) (x y c from at : ℕ) where
   pub off-first-way : covers span c x ≡ true → fill from at (offAt code span x y c) ≡ []
@@ -304,21 +277,14 @@ module _ (code span : List ℕ) (x y c from at : ℕ) where
 
 -- ------------------------------------------------------------------ a node's own factors
 -- the label, and then the branches off the ways
-module _ {code kids span : List ℕ} {u : ℕ} (R : Row code kids span u) (x y : ℕ) (d : List ℕ) {from at : ℕ} (le : from ≤ at) where
-  own-parts : ownAt code span x y u ≡ labelAt code u ++ branchesAt code span x y u
+module _ (code span : List ℕ) (x y u : ℕ) (d : List ℕ) {from at : ℕ} (le : from ≤ at) (l : at + length (fill from at (ownAt code span x y u)) ≤ length d) where
+  O₀ : Left d from at (ownAt code span x y u) d at (labelAt code u ++ branchesAt code span x y u)
   unfolding ownAt
-  own-parts = refl
+  O₀ = left-start le l
 
-  pub own-label : at + length (fill from at (ownAt code span x y u)) ≤ length d → at + length (fill from at (labelAt code u)) ≤ length d
-  own-label l = first-fits (labelAt code u) (branchesAt code span x y u) own-parts d le l
+  pub own-label : at + length (fill from at (labelAt code u)) ≤ length d
+  own-label = left-fits (labelAt code u) _ O₀
 
-  module _ {d₁ : List ℕ} {a : ℕ} (v : Written d at (fill from at (labelAt code u)) d₁ a) where
-    pub own-start : Off code span x y (u + 1) (u + getD span u 0) d₁ from a (branchesAt code span x y u) d₁ a
-    own-start = off-start R (left-start d₁ from a _ _ refl (written-reached le v))
-
-    pub own-rest : at + length (fill from at (ownAt code span x y u)) ≤ length d → a + length (fill from a (branchesAt code span x y u)) ≤ length d₁
-    own-rest l = rest-fits (labelAt code u) (branchesAt code span x y u) own-parts d le v l
-
-    pub own-done : {c e : ℕ} {d₂ : List ℕ} {r : ℕ} → Off code span x y c e d₁ from a (branchesAt code span x y u) d₂ r → e ≤ c
-        → Written d at (fill from at (ownAt code span x y u)) d₂ r
-    own-done O m = rest-done (labelAt code u) (branchesAt code span x y u) own-parts d le v (left-end (off-end O m))
+  pub own-rest : {d₁ : List ℕ} {a : ℕ} → Written d at (fill from at (labelAt code u)) d₁ a
+      → Left d from at (ownAt code span x y u) d₁ a (branchesAt code span x y u)
+  own-rest v = left-step (labelAt code u) _ O₀ v

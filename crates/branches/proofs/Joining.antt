@@ -113,64 +113,48 @@ pub fill-parent : (from at : ℕ) → fill from at (parent ∷ []) ≡ factor fr
 unfolding decLt
 fill-parent from at = fill-one from at parent
 
--- ------------------------------------------------------------------ factors in two parts
-module _ {xs : List Expr} (ys zs : List Expr) (e : xs ≡ ys ++ zs) (d : List ℕ) {from at : ℕ} (le : from ≤ at) where
-  both-parts : fill from at xs ≡ fill from at ys ++ fill from (at + length (fill from at ys)) zs
-  both-parts = ap (fill from at) e ∙ fill-append from at ys zs le
-
-  pub first-fits : at + length (fill from at xs) ≤ length d → at + length (fill from at ys) ≤ length d
-  first-fits l = omega (arith, ap length both-parts, length-append (fill from at ys) (fill from (at + length (fill from at ys)) zs))
-
-  module _ {d₁ : List ℕ} {a : ℕ} (v : Written d at (fill from at ys) d₁ a) where
-    parts : fill from at xs ≡ fill from at ys ++ fill from a zs
-    parts = rw (v .place) both-parts
-
-    pub rest-fits : at + length (fill from at xs) ≤ length d → a + length (fill from a zs) ≤ length d₁
-    rest-fits l = let p = v .place in let s = written-length v in omega (arith, ap length parts, length-append (fill from at ys) (fill from a zs))
-
-    pub rest-done : {d₂ : List ℕ} {r : ℕ} → Written d₁ a (fill from a zs) d₂ r → Written d at (fill from at xs) d₂ r
-    rest-done w = written-is (sym parts) (written-then v w)
-
 -- ------------------------------------------------------------------ a list of factors, part by part
--- Of the factors xs, owed from place at₀ on, some stand in the room; those that are left, ys, belong to place `at`.
+-- Of the factors xs, owed from place at₀ on, some stand in the room; those that are left, ys, belong to place `at`, and there is room for them.
 pub record Left (d₀ : List ℕ) (from at₀ : ℕ) (xs : List Expr) (d : List ℕ) (at : ℕ) (ys : List Expr) : Type 0 where
   pub reached : from ≤ at
-  pub same : length d ≡ length d₀
+  pub fits : at + length (fill from at ys) ≤ length d
   pub places : at + length (fill from at ys) ≡ at₀ + length (fill from at₀ xs)
   pub bytes : put d at (fill from at ys) ≡ put d₀ at₀ (fill from at₀ xs)
 
-pub left-start : (d : List ℕ) (from at : ℕ) (xs ys : List Expr) → xs ≡ ys → from ≤ at → Left d from at xs d at ys
-left-start d from at xs ys e l = rw e (record { reached = l; same = refl; places = refl; bytes = refl })
+-- nothing stands there yet
+pub left-start : {d : List ℕ} {from at : ℕ} {xs : List Expr} → from ≤ at → at + length (fill from at xs) ≤ length d → Left d from at xs d at xs
+left-start l f = record { reached = l; fits = f; places = refl; bytes = refl }
 
 module _ {d₀ : List ℕ} {from at₀ : ℕ} {xs : List Expr} {d : List ℕ} {at : ℕ} where
   pub left-is : {ys zs : List Expr} → ys ≡ zs → Left d₀ from at₀ xs d at ys → Left d₀ from at₀ xs d at zs
   left-is e w = rw e at w
 
-  -- there is room for the next part
-  pub left-fits : (ys zs : List Expr) → Left d₀ from at₀ xs d at (ys ++ zs) → at₀ + length (fill from at₀ xs) ≤ length d₀
-      → at + length (fill from at ys) ≤ length d
-  left-fits ys zs w l =
-      let p = w .places in let s = w .same in
-      omega (arith, ap length (fill-append from at ys zs (w .reached)), length-append (fill from at ys) (fill from (at + length (fill from at ys)) zs))
-
-  -- the next part is written
-  pub left-step : (ys zs : List Expr) {d₁ : List ℕ} {r : ℕ} → Left d₀ from at₀ xs d at (ys ++ zs) → Written d at (fill from at ys) d₁ r
-      → Left d₀ from at₀ xs d₁ r zs
-  left-step ys zs {d₁} {r} w v =
-      let e = fill-append from at ys zs (w .reached) in
-      let p = v .place in let q = w .reached in let l = w .places in
-      record {
-        reached = omega arith;
-        same = written-length v ∙ w .same;
-        places = rw p (omega (arith, ap length e, length-append (fill from at ys) (fill from (at + length (fill from at ys)) zs)));
-        bytes = rw (p, v .bytes) (sym (put-append d at (fill from at ys) (fill from (at + length (fill from at ys)) zs))) ∙ ap (put d at) (sym e) ∙ w .bytes;
-      }
+  -- all that is left is written
+  pub left-done : {ys : List Expr} {d₁ : List ℕ} {r : ℕ} → Left d₀ from at₀ xs d at ys → Written d at (fill from at ys) d₁ r
+      → Written d₀ at₀ (fill from at₀ xs) d₁ r
+  left-done w v = record { place = v .place ∙ w .places; bytes = v .bytes ∙ w .bytes }
 
   -- nothing is left
   pub left-end : Left d₀ from at₀ xs d at [] → Written d₀ at₀ (fill from at₀ xs) d at
-  left-end w =
-      let n = fill-nil from at in let p = w .places in
-      record {
-        place = omega (arith, ap length n);
-        bytes = sym (put-nil d at) ∙ ap (put d at) (sym n) ∙ w .bytes;
-      }
+  left-end w = left-done w (written-is (sym (fill-nil from at)) (written-nil d at))
+
+  -- the next part
+  module _ (ys zs : List Expr) (w : Left d₀ from at₀ xs d at (ys ++ zs)) where
+    parts : fill from at (ys ++ zs) ≡ fill from at ys ++ fill from (at + length (fill from at ys)) zs
+    parts = fill-append from at ys zs (w .reached)
+
+    lengths : at + length (fill from at ys) + length (fill from (at + length (fill from at ys)) zs) ≡ at + length (fill from at (ys ++ zs))
+    lengths = omega (arith, ap length parts, length-append (fill from at ys) (fill from (at + length (fill from at ys)) zs))
+
+    pub left-fits : at + length (fill from at ys) ≤ length d
+    left-fits = omega (arith, lengths, w .fits)
+
+    pub left-step : {d₁ : List ℕ} {r : ℕ} → Written d at (fill from at ys) d₁ r → Left d₀ from at₀ xs d₁ r zs
+    left-step v =
+        let q = w .reached in
+        rw (v .place) (record {
+          reached = omega arith;
+          fits = omega (arith, lengths, w .fits, written-length v);
+          places = lengths ∙ w .places;
+          bytes = rw (v .bytes) (sym (put-append d at (fill from at ys) (fill from (at + length (fill from at ys)) zs))) ∙ ap (put d at) (sym parts) ∙ w .bytes;
+        })

@@ -12,7 +12,6 @@ ghost use Rattle.branches.specs.Factors.{Row, labelAt, chainAt, offAt, o
 use rows::Codes;
 use rows::Links;
 use rows::holds;
-use rows::wide;
 
 // The factor that went to place `at` and ends at place `end` is joined to what stands before it.
 pub fn join(room: &mut [u8], from: usize, at: usize, end: usize) -> usize
@@ -75,13 +74,13 @@ fn chain(
     if kids[u] == 1 {
         return chain(code, kids, span, u + 1, room, from, end);
     }
-    let stop = u + wide(span[u]);
+    let stop = u + rows::at(span, u);
     let mut c = u + 1;
     let mut place = end;
     while c < stop {
         let past = branch(code, kids, span, c, room, place);
         place = join(room, from, place, past);
-        c += wide(span[c]);
+        c += rows::at(span, c);
     }
     place
 }
@@ -128,11 +127,11 @@ pub fn own(
     ensures { λ r. ⌜ Written (now (room .entry)) at (fill from at (ownAt (now (code .entry)) (now (span .entry)) x y u)) (now (room .exit)) r ⌝ }
 {
     let mut place = put_label(code, u, room, from, at);
-    let stop = u + wide(span[u]);
+    let stop = u + rows::at(span, u);
     let mut c = u + 1;
     while c < stop {
         place = put_off(code, kids, span, c, x, y, room, from, place);
-        c += wide(span[c]);
+        c += rows::at(span, c);
     }
     place
 }

@@ -67,7 +67,7 @@ fn row_weight(
     if on_way(span, s, d, u) {
         return own + 2;
     }
-    if branches_at(kids, span, s, d, rows::wide(up[u])) {
+    if branches_at(kids, span, s, d, rows::at(up, u)) {
         return own + 3;
     }
     own + 2

@@ -69,7 +69,7 @@ pub fn holds(span: &Links, c: usize, x: usize) -> bool
     if x < c {
         return false;
     }
-    x < c + wide(span[c])
+    x < c + at(span, c)
 }
 
 // The first row that bears the mark: bit S or bit D.

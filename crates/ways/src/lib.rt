@@ -11,7 +11,6 @@ ghost use Rattle.branches.specs.Factors.{Row};
 ghost use Rattle.ways.specs.Ways.{Covers, Part, Pair, Climb, Lowest, Among, upsAt, downsAt, wayAt};
 use rows::Codes;
 use rows::Links;
-use rows::wide;
 
 // "Let t be the lowest node above or at both s and d": up from s to the first row that holds d.
 pub fn lowest(span: &Links, up: &Links, s: usize, d: usize) -> usize
@@ -23,7 +22,7 @@ pub fn lowest(span: &Links, up: &Links, s: usize, d: usize) -> usize
         if rows::holds(span, t, d) {
             return t;
         }
-        t = wide(up[t]);
+        t = rows::at(up, t);
     }
 }
 
@@ -34,7 +33,7 @@ fn child_to(span: &Links, u: usize, x: usize) -> usize
 {
     let mut c = u + 1;
     loop {
-        let next = c + wide(span[c]);
+        let next = c + rows::at(span, c);
         if x < next {
             return c;
         }
@@ -63,7 +62,7 @@ pub fn rise(
     while x != t {
         let end = branches::own(code, kids, span, x, s, s, room, from, at);
         at = branches::put_sign(room, from, end, 3);
-        x = wide(up[x]);
+        x = rows::at(up, x);
     }
     at
 }

@@ -1,23 +1,23 @@
 -- The label is written; then, child by child, those from row c on are left.
-use Prim.Native.Nat.{_+_, _-_, _<_, _≤_}
-use mathlib.Core.Path.{_≡_, refl}
+use Prim.Native.Nat.{_-_}
 use native.Mathlib.Omega.{arith}
 use borrow.Author.Needs.{needs}
-use lib.ListN.{length, getD}
-use Rattle.branches.specs.Joining.{fill}
 use Rattle.branches.specs.Factors.{branchesAt}
-use Rattle.branches.proofs.Joining.{written-length}
-use Rattle.branches.proofs.Chains.{row-few, row-in, Off, off-row, off-fits, off-next, own-label, own-start, own-rest, own-done}
+use Rattle.branches.proofs.Joining.{written-length, left-start, left-done}
+use Rattle.branches.proofs.Chains.{row-few, Off, off-start, off-opens, off-fits, off-next, off-end, own-label, own-rest}
 use Rattle.branches.proofs.own.Statement.{statement}
 use Rattle.branches.proofs.own.Tie as tie
 
 abbrev Inv-loop : tie.InvT-loop
-Inv-loop code kids span u x y room₀ from at place₀ stop c₀ room place c =
-    (u < c) × (stop ≡ u + getD span u 0) × Off code span x y c stop room₀ from place₀ (branchesAt code span x y u) room place
-    × (place₀ + length (fill from place₀ (branchesAt code span x y u)) ≤ length room₀)
+Inv-loop code kids span u x y room₀ from at place₀ stop c₀ room place c = Off code span x y kids c stop room₀ from place₀ (branchesAt code span x y u) room place
 
 abbrev μ-loop : tie.MeasureT-loop
 μ-loop code kids span u x y room₀ from at place₀ stop c₀ room place c = stop - c
+
+returns : tie.Need-returns Inv-loop μ-loop
+returns c =
+    let p = c .before .before .before .before .before in let (R, le, f) = p .before .before .before .pre in
+    left-done (own-rest _ _ _ _ _ _ le f (p .put-label .ensures)) (off-end (c .before .loop .inv) (c .loop-test .left))
 
 pub own-spec : {M : Type 1} → statement M
 own-spec =
@@ -25,44 +25,20 @@ own-spec =
     (tie.spec
     Inv-loop μ-loop
     (λ c κs.
-    let s = c .before .before in
-    let (R, le, f) = s .pre in
-    (row-few R, R .rows .labels (s .args .u) (R .within), own-label R _ _ (s .args .room .now) le f))
-    (λ c. omega (arith, row-few (c .before .before .before .before .before .pre .0)))
-    (λ c. row-few (c .before .before .before .before .before .pre .0))
-    (λ c κs. search needs)
-    (λ c. omega (arith, row-few (c .before .before .before .before .before .before .before .pre .0), c .wide .ensures .1))
-    (λ c. omega (arith, row-few (c .before .before .before .before .before .before .before .pre .0)))
+    let s = c .before .before in let (R, le, f) = s .pre in
+    (row-few R, R .rows .labels (s .args .u) (R .within), own-label _ _ _ _ _ (s .args .room .now) le f))
+    (λ c κs. search needs) (λ c. search needs) (λ c. search needs)
     (λ c.
-    let p = c .before .before .before .before in let s = p .before .before .before in
-    let (R, le, f) = s .pre in (
-      omega arith,
-      rw (c .wide .ensures .0) refl,
-      rw (c .wide .ensures .0)
-          (own-start R _ _ (s .args .room .now) le (p .put-label .ensures)),
-      own-rest R _ _ (s .args .room .now) le (p .put-label .ensures) f,
-    ))
-    (λ c κs.
-    let t = c .before in let h = t .before in
-    let (uc, es, O, f) = h .loop .inv in
-    let s = h .before .before .before .before .before .before .before .before in
-    (row-in (s .pre .0) (h .loop .c) (omega (arith, t .loop-test .taken)), off-fits O (t .loop-test .taken) f))
-    (λ c. let t = c .before .before .before .before in omega (arith, t .before .loop .inv .2 .few, t .loop-test .taken))
-    (λ c. let t = c .before .before .before .before in omega (arith, t .before .loop .inv .2 .few, t .loop-test .taken))
-    (λ c κs. search needs)
-    (λ c. let t = c .before .before .before .before .before .before in omega (arith, t .before .loop .inv .2 .few, t .loop-test .taken, c .wide2 .ensures .1))
+    let p = c .before .before .before in let (R, le, f) = p .before .before .before .pre in
+    let L = own-rest _ _ _ _ _ _ le f (p .put-label .ensures) in
+    rw (c .at .ensures .0) (off-start R (left-start (L .reached) (L .fits))))
+    (λ c κs. let t = c .before in let l = t .before .loop in (l .inv .row (l .c) (t .loop-test .taken), off-fits (l .inv) (t .loop-test .taken)))
+    (λ c κs. let t = c .before .before .before .before in row-few (t .before .loop .inv .row _ (t .loop-test .taken)))
+    (λ c. let t = c .before .before .before .before .before in omega (arith, row-few (t .before .loop .inv .row _ (t .loop-test .taken)), c .at2 .ensures .1))
     (λ c.
-    let t = c .before .before .before .before .before .before in
-    omega (arith, off-row (t .before .loop .inv .2) (t .loop-test .taken) .some, c .wide2 .ensures .0, t .loop-test .taken))
+    let t = c .before .before .before .before .before in
+    omega (arith, off-opens (t .before .loop .inv) (t .loop-test .taken) .some, c .at2 .ensures .0, t .loop-test .taken))
     (λ c.
-    let p = c .before .before .before .before in let t = p .before .before in
-    let (uc, es, O, f) = t .before .loop .inv in
-    (omega arith, es, rw (c .wide2 .ensures .0) (off-next O (t .loop-test .taken) (p .put-off .ensures)), f))
-    (λ c.
-    let p = c .before .before .before .before .before .before in let s = p .before .before .before in
-    let (R, le, f) = s .pre in
-    written-length (own-done R _ _ (s .args .room .now) le (p .put-label .ensures) (c .before .loop .inv .2) (c .loop-test .left)))
-    (λ c.
-    let p = c .before .before .before .before .before .before in let s = p .before .before .before in
-    let (R, le, f) = s .pre in
-    own-done R _ _ (s .args .room .now) le (p .put-label .ensures) (c .before .loop .inv .2) (c .loop-test .left)))
+    let p = c .before .before .before in let t = p .before .before in
+    rw (c .at2 .ensures .0) (off-next (t .before .loop .inv) (t .loop-test .taken) (p .put-off .ensures)))
+    (λ c. written-length (returns c)) returns)

@@ -13,29 +13,19 @@ Inv-loop span u x c₀ c = Children span u x c
 abbrev μ-loop : tie.MeasureT-loop
 μ-loop span u x c₀ c = u + getD span u 0 - c
 
-returns : tie.Need-returns Inv-loop μ-loop
-returns c =
-    let s = c .before .before .before .before in
-    let l = c .before .before .before .loop in
-    let h = children-here (l .inv) (s .pre .2 .to) in
-    (h .among, record { from = l .inv .low; to = omega (arith, c .if1 .taken, c .before .wide .ensures .0) })
-
-loop-less : tie.Need-loop-less Inv-loop μ-loop
-loop-less c =
-    let s = c .before .before .before .before in
-    let l = c .before .before .before .loop in
-    let h = children-here (l .inv) (s .pre .2 .to) in
-    omega (arith, h .some, h .ends, c .before .wide .ensures .0)
-
-loop-again : tie.Need-loop-again Inv-loop μ-loop
-loop-again c =
-    let s = c .before .before .before .before in
-    let l = c .before .before .before .loop in
-    let wide = c .before .wide in
-    let h = children-here (l .inv) (s .pre .2 .to) in
-    rw (wide .ensures .0) (h .further (omega (arith, c .if1 .left, wide .ensures .0)))
-
 pub child-to-spec : {M : Type 1} → statement M
 child-to-spec =
     tie.close
-    (tie.spec Inv-loop μ-loop (λ c. search needs) (λ c. children-start (c .pre .0) (c .pre .1) (c .pre .2)) (λ c. search needs) (λ c. search needs) (λ c κs. search needs) (λ c. search needs) returns loop-less loop-again)
+    (tie.spec
+    Inv-loop μ-loop
+    (λ c. search needs) (λ c. children-start (c .pre .0) (c .pre .1) (c .pre .2)) (λ c κs. search needs) (λ c. search needs)
+    (λ c.
+    let l = c .before .before in let h = children-here (l .loop .inv) (l .before .pre .2 .to) in
+    (h .among, record { from = l .loop .inv .low; to = omega (arith, c .if1 .taken, c .before .at .ensures .0) }))
+    (λ c.
+    let l = c .before .before in let h = children-here (l .loop .inv) (l .before .pre .2 .to) in
+    omega (arith, h .some, h .ends, c .before .at .ensures .0))
+    (λ c.
+    let l = c .before .before in let h = children-here (l .loop .inv) (l .before .pre .2 .to) in
+    let e = c .before .at .ensures .0 in
+    rw e (h .further (omega (arith, c .if1 .left)))))

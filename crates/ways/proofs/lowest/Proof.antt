@@ -12,29 +12,17 @@ Inv-loop span up s d t₀ t = Above-s span s d t
 abbrev μ-loop : tie.MeasureT-loop
 μ-loop span up s d t₀ t = t
 
-returns : tie.Need-returns Inv-loop μ-loop
-returns c =
-    let s = c .before .before .before in
-    let l = c .before .before .loop in
-    lowest-done (s .pre) (l .inv) (sym (c .before .holds .ensures) ∙ c .if1 .taken)
-
-loop-less : tie.Need-loop-less Inv-loop μ-loop
-loop-less c =
-    let b = c .before .before .before in
-    let s = b .before .before in
-    let l = b .before .loop in
-    let holds = b .holds in
-    let l = lowest-less (s .pre) (l .inv) (sym (holds .ensures) ∙ c .before .before .if1 .left) in omega (arith, c .wide .ensures .0)
-
-loop-again : tie.Need-loop-again Inv-loop μ-loop
-loop-again c =
-    let b = c .before .before .before in
-    let s = b .before .before in
-    let l = b .before .loop in
-    let holds = b .holds in
-    rw (c .wide .ensures .0) (lowest-next (s .pre) (l .inv) (sym (holds .ensures) ∙ c .before .before .if1 .left))
-
 pub lowest-spec : {M : Type 1} → statement M
 lowest-spec =
     tie.close
-    (tie.spec Inv-loop μ-loop (λ c. lowest-start (c .pre)) (λ c κs. c .loop .inv .few) returns (λ c. search needs) (λ c. search needs) (λ c κs. search needs) loop-less loop-again)
+    (tie.spec
+    Inv-loop μ-loop
+    (λ c. lowest-start (c .pre)) (λ c κs. c .loop .inv .few)
+    (λ c. let l = c .before .before in lowest-done (l .before .pre) (l .loop .inv) (sym (c .before .holds .ensures) ∙ c .if1 .taken))
+    (λ c κs. search needs)
+    (λ c.
+    let h = c .before .before in let l = h .before in
+    omega (arith, c .at .ensures .0, lowest-less (l .before .pre) (l .loop .inv) (sym (h .holds .ensures) ∙ c .before .if1 .left)))
+    (λ c.
+    let h = c .before .before in let l = h .before in
+    rw (c .at .ensures .0) (lowest-next (l .before .pre) (l .loop .inv) (sym (h .holds .ensures) ∙ c .before .if1 .left))))

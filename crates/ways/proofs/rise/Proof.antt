@@ -43,30 +43,24 @@ put-sign-requires c κs =
 
 loop-less : tie.Need-loop-less Inv-loop μ-loop
 loop-less c =
-    let b = c .before .before .before .before .before .before .before .before .before .before in
-    let s = b .before .before .before in
-    let l = b .before .loop in
-    let test = b .loop-test in
-    let (tx, v, w) = l .inv in
-    let l = rise-less (s .pre .0) (l .x) tx v (test .taken) in omega (arith, c .wide .ensures .0)
+    let t = c .before .before .before .before .before .before .before .before .before in
+    let l = t .before in
+    let (tx, v, w) = l .loop .inv in
+    omega (arith, rise-less (l .before .before .pre .0) (l .loop .x) tx v (t .loop-test .taken), c .at .ensures .0)
 
 loop-again : tie.Need-loop-again Inv-loop μ-loop
 loop-again c =
-    let b = c .before .before .before .before in
-    let b2 = b .before .before .before .before in
-    let b3 = b2 .before .before in
-    let s = b3 .before .before .before in
-    let l = b3 .before .loop in
-    let test = b3 .loop-test in
-    let own = b2 .own in
-    let put-sign = b .put-sign in
-    let (tx, v, w) = l .inv in
-    let C = s .pre .0 in
-    let ne = test .taken in
-    rw (c .wide .ensures .0) (
-      rise-from C (l .x) tx v ne,
-      rise-covers C (l .x) tx v ne,
-      rise-next C (l .x) tx v ne _ w (own .ensures) (put-sign .ensures),
+    let p = c .before .before .before in
+    let o = p .before .before .before .before in
+    let t = o .before .before in
+    let l = t .before in
+    let C = l .before .before .pre .0 in
+    let (tx, v, w) = l .loop .inv in
+    let ne = t .loop-test .taken in
+    rw (c .at .ensures .0) (
+      rise-from C (l .loop .x) tx v ne,
+      rise-covers C (l .loop .x) tx v ne,
+      rise-next C (l .loop .x) tx v ne _ w (o .own .ensures) (p .put-sign .ensures),
     )
 
 same-length : tie.Need-same-length Inv-loop μ-loop
@@ -78,4 +72,4 @@ returns c = rw (← c .loop-test .left) (c .before .loop .inv .2)
 pub rise-spec : {M : Type 1} → statement M
 rise-spec =
     tie.close
-    (tie.spec Inv-loop μ-loop loop-holds own-requires put-sign-requires (λ c. search needs) (λ c. search needs) (λ c κs. search needs) loop-less loop-again same-length returns)
+    (tie.spec Inv-loop μ-loop loop-holds own-requires put-sign-requires (λ c κs. search needs) loop-less loop-again same-length returns)
