@@ -18,7 +18,7 @@ use Rattle.groups.specs.Put.{Written}
 use Rattle.branches.specs.Joining.{joint, fill, factor}
 use Rattle.branches.specs.Factors.{Row, tagged, under, labelAt, onwardAt, chainAt, offAt, branchesAt, ownAt}
 use Rattle.branches.proofs.Joining.{fill-nil, fill-one, fill-child, fill-first, factor-first, factor-rest, factor-then, written-is}
-use Rattle.branches.proofs.Joining.{written-then, written-length, Left, left-start, left-is, left-done, left-end, left-fits, left-step}
+use Rattle.branches.proofs.Joining.{written-then, written-length, Left, left-start, left-is, left-end, left-fits, left-step}
 use Rattle.branches.proofs.Covers.{either-covers, covers-before}
 
 pub labelled-append : (l : Lab) (xs : List Expr) → labelled l xs ≡ labelled l [] ++ xs

@@ -14,7 +14,7 @@ use Rattle.meaning.specs.Tree.{Forest, bare, tree, Tag, Any, size}
 use Rattle.meaning.specs.Folding.{Onto}
 use Rattle.theory.proofs.Folding.{Equal, equal-refl, equal-trans}
 use Rattle.theory.proofs.Removal.{Pruned, end, gone, kept, pruned-refl, pruned-equal}
-use Rattle.rows.specs.Rows.{tagAt, labOf, below, Holds}
+use Rattle.rows.specs.Rows.{tagAt, below, Holds}
 use Rattle.rows.proofs.Rows.{size-holds, Opens}
 use Rattle.onto.specs.Left.{Nodes, marked, tagOf, goneAt, Gone, Brother, left, leftBelow}
 use Rattle.onto.specs.Onto.{OntoRow, Stands}

@@ -49,7 +49,7 @@ abbrev pub Below : (f : Forest ℕ) → Node f → Node f → Type 0
 Below f p q = (x : Node (kids f p)) × Top (kids f p) x × (out f p x ≡ q)
 
 -- the table D has the nodes of f, each once, with their labels and their children
-pub record Stands (f : Forest ℕ) (D : Doc) : Type 0 where
+pub record TableOf (f : Forest ℕ) (D : Doc) : Type 0 where
   pub number : Node f → ℕ
   pub inside : (p : Node f) → In D (number p)
   pub once : (p q : Node f) → number p ≡ number q → p ≡ q
@@ -207,7 +207,7 @@ module _ (a : ℕ) (k : Forest ℕ) where
               let p : (docRow D n) .parent ≡ 0 + number-in F x = ap (λ z. (docRow D z) .parent) (sym e) ∙ parent-of q ∙ w .0 in omega arith
 
   -- "every finite labelled tree" is a document
-  pub tree-document : (E : Doc) × Document E × Stands (tree a k bare) E
+  pub tree-document : (E : Doc) × Document E × TableOf (tree a k bare) E
   tree-document = (
     D,
     good,
@@ -341,7 +341,7 @@ module _ (D : Doc) where
     child-below : (p q : Node T) → Child D (N p) (N q) → Below T p q
     child-below p q c = let (x, t, e) = (laid p) .2 .all (N q) c (c .inside) in (x, t, once-below (suc (N q)) (out T p x) q (omega arith) e)
 
-    stands : Stands T D
+    stands : TableOf T D
     stands = record {
       number = N;
       inside = λ p. (laid p) .0;
@@ -352,5 +352,5 @@ module _ (D : Doc) where
     }
 
   -- every document is a finite labelled tree
-  pub document-tree : Document D → (a : ℕ) × (k : Forest ℕ) × Stands (tree a k bare) D
+  pub document-tree : Document D → (a : ℕ) × (k : Forest ℕ) × TableOf (tree a k bare) D
   document-tree good = let (k, M, w, lk) = grown (length D) 0 (omega arith) in (labelOf D 0, k, stands good k M w lk)

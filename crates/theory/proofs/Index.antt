@@ -39,11 +39,11 @@ use Rattle.theory.proofs.Program as Program
 
 -- ------------------------------------------------------------------ documents and worked cases
 -- "On every finite labelled tree": each tree, built from a label and the trees below it, has a document table with its nodes, labels and children.
-pub every-tree : (a : ℕ) (k : Forest ℕ) → (D : Doc) × Document D × Documents.Stands (tree a k bare) D
+pub every-tree : (a : ℕ) (k : Forest ℕ) → (D : Doc) × Document D × Documents.TableOf (tree a k bare) D
 every-tree = Documents.tree-document
 
 -- .. and each document table is the table of such a tree.
-pub every-table : (D : Doc) → Document D → (a : ℕ) × (k : Forest ℕ) × Documents.Stands (tree a k bare) D
+pub every-table : (D : Doc) → Document D → (a : ℕ) × (k : Forest ℕ) × Documents.TableOf (tree a k bare) D
 every-table = Documents.document-tree
 
 -- "P1 to P12 are proved as a single table under a single theorem."

@@ -112,20 +112,20 @@ groups-got first (b ∷ bs) v k e = go (ltb b 128) e (groups-got false bs)
         let (p, q, l) = ih w j eg in (omega arith, omega arith, rw (← ev) (ends-more first b w l))
 
 -- the bytes begin with v in its shortest writing, and k bytes were read
-record Written (first : Bool) (bs : List ℕ) (v k : ℕ) : Type 0 where
+record Begins (first : Bool) (bs : List ℕ) (v k : ℕ) : Type 0 where
   ends : Ends first v
   bytes : (f : ℕ) → v < f → bs ≡ numF f v ++ drop k bs
 
-one-written : (first : Bool) (b : ℕ) (bs : List ℕ) → b < 128 → Ends first b → Written first (b ∷ bs) b 1
-one-written first b bs lt h = record { ends = h; bytes = write }
+one-begins : (first : Bool) (b : ℕ) (bs : List ℕ) → b < 128 → Ends first b → Begins first (b ∷ bs) b 1
+one-begins first b bs lt h = record { ends = h; bytes = write }
   where
     write : (f : ℕ) → b < f → b ∷ bs ≡ numF f b ++ bs
     write zero l = absurd (omega arith)
     write (suc f) l = rw (numF-one f b lt)
 
-more-written : (first : Bool) (b : ℕ) (bs : List ℕ) (w j : ℕ) → b < 256 → 128 ≤ b → Written false bs w j
-    → Written first (b ∷ bs) (b - 128 + 128 * w) (suc j)
-more-written first b bs w j lt le h = record { ends = ends-more first b w pos; bytes = write }
+more-begins : (first : Bool) (b : ℕ) (bs : List ℕ) (w j : ℕ) → b < 256 → 128 ≤ b → Begins false bs w j
+    → Begins first (b ∷ bs) (b - 128 + 128 * w) (suc j)
+more-begins first b bs w j lt le h = record { ends = ends-more first b w pos; bytes = write }
   where
     pos : 0 < w
     pos = h .ends
@@ -137,19 +137,19 @@ more-written first b bs w j lt le h = record { ends = ends-more first b w pos; b
         let m : 128 + (b - 128 + 128 * w) % 128 ≡ b = omega arith in
         rw (numF-more f (b - 128 + 128 * w) (omega (arith, pos)), d, m, ← (h .bytes f (omega (arith, pos))))
 
-groups-written : (first : Bool) (bs : List ℕ) (v k : ℕ) → Bytes bs → groups first bs ≡ got v k → Written first bs v k
+groups-begins : (first : Bool) (bs : List ℕ) (v k : ℕ) → Bytes bs → groups first bs ≡ got v k → Begins first bs v k
 unfolding groups
-groups-written first [] v k h e = never cc
-groups-written first (b ∷ bs) v k h e = go (ltb b 128) refl e (λ w j. groups-written false bs w j (λ i l. h (suc i) (omega arith)))
+groups-begins first [] v k h e = never cc
+groups-begins first (b ∷ bs) v k h e = go (ltb b 128) refl e (λ w j. groups-begins false bs w j (λ i l. h (suc i) (omega arith)))
   where
     go : (t : Bool) → ltb b 128 ≡ t → cond t (lone first b) (more b (groups false bs)) ≡ got v k
-        → ((w j : ℕ) → groups false bs ≡ got w j → Written false bs w j) → Written first (b ∷ bs) v k
-    go true q e′ ih = let (h, ev, ek) = lone-back first b v k e′ in rw (← ev, ← ek) (one-written first b bs (ltb-true b 128 q) h)
+        → ((w j : ℕ) → groups false bs ≡ got w j → Begins false bs w j) → Begins first (b ∷ bs) v k
+    go true q e′ ih = let (h, ev, ek) = lone-back first b v k e′ in rw (← ev, ← ek) (one-begins first b bs (ltb-true b 128 q) h)
     go false q e′ ih = on (more-back b (groups false bs) v k e′)
       where
-        on : (w : ℕ) × (j : ℕ) × (groups false bs ≡ got w j) × (b - 128 + 128 * w ≡ v) × (j + 1 ≡ k) → Written first (b ∷ bs) v k
-        on (w, j, eg, ev, ek) = rw (← ev, ← ek, add-one) (more-written first b bs w j (h 0 (omega arith)) (ltb-false b 128 q) (ih w j eg))
+        on : (w : ℕ) × (j : ℕ) × (groups false bs ≡ got w j) × (b - 128 + 128 * w ≡ v) × (j + 1 ≡ k) → Begins first (b ∷ bs) v k
+        on (w, j, eg, ev, ek) = rw (← ev, ← ek, add-one) (more-begins first b bs w j (h 0 (omega arith)) (ltb-false b 128 q) (ih w j eg))
 
 -- "Only the shortest writing of a number is read."
 pub read-shortest : (bs : List ℕ) (v k : ℕ) → Bytes bs → groups true bs ≡ got v k → bs ≡ num v ++ drop k bs
-read-shortest bs v k h e = (groups-written true bs v k h e) .bytes (suc v) (omega arith)
+read-shortest bs v k h e = (groups-begins true bs v k h e) .bytes (suc v) (omega arith)

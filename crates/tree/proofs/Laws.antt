@@ -10,7 +10,6 @@ use lib.Bits.{bitOr}
 use lib.ListN.{length, getD, set, length-set}
 use lib.Seq.{getD-set-same, getD-set-other}
 use Rattle.meaning.specs.Basics.{is}
-use Rattle.meaning.specs.Limits.{mostNodes}
 use Rattle.meaning.specs.TreeQuery.{Tree, TreeQuery}
 use Rattle.meaning.specs.Tree.{plainTree}
 use Rattle.meaning.specs.Folding.{minimal}

@@ -1,5 +1,4 @@
 -- Row u has gone where the bit of its mark says so.
-use mathlib.Core.Path.{refl}
 use borrow.Author.Needs.{needs}
 use Rattle.onto.proofs.is_gone.Statement.{statement}
 use Rattle.onto.proofs.is_gone.Tie as tie
