@@ -20,7 +20,8 @@ use Rattle.glue.specs.declared.trees.Built.{Built}
 use Rattle.glue.specs.Rows.{poolRows}
 use Rattle.glue.specs.Trees.{builtFrom}
 use Rattle.pool.specs.declared.operand.Latest.{Latest}
-use Rattle.pool.specs.Pool.{Pool, pool, built, operandAt, stack, InOrder, Trees, allSteps}
+use Rattle.theory.proofs.Accepted.{allSteps}
+use Rattle.pool.specs.Pool.{Pool, pool, built, operandAt, stack, InOrder, Trees}
 use Rattle.pool.specs.Latest.{latestAt, Made}
 
 -- ------------------------------------------------------------------ the stack of operands

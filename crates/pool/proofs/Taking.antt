@@ -14,7 +14,8 @@ use Rattle.meaning.specs.Word.{refused, answered, operand, unary, binary, signO
 use Rattle.theory.proofs.Look.{never}
 use Rattle.glue.specs.Rows.{poolRows}
 use Rattle.pool.specs.declared.operand.Latest.{Latest}
-use Rattle.pool.specs.Pool.{Pool, pool, operandAt, stack, InOrder, Trees, allSteps, PoolFor, Passes}
+use Rattle.theory.proofs.Accepted.{allSteps}
+use Rattle.pool.specs.Pool.{Pool, pool, operandAt, stack, InOrder, Trees, PoolFor, Passes}
 use Rattle.pool.specs.Latest.{Made, Gives, PutFits}
 use Rattle.pool.proofs.Signs.{operand-means, unary-means, binary-means}
 use Rattle.pool.proofs.Operands.{stack-top, stack-count, plain-tree, trees-of, rows-most, used, order-below, put-stack, put-order}

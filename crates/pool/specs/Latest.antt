@@ -14,7 +14,8 @@ use Rattle.rows.specs.Table.{ifRows}
 use Rattle.glue.specs.Rows.{poolRows}
 use Rattle.glue.specs.Trees.{builtFrom}
 use Rattle.pool.specs.declared.operand.Latest.{Latest}
-use Rattle.pool.specs.Pool.{Pool, stack, InOrder, allSteps, PoolFor}
+use Rattle.theory.proofs.Accepted.{allSteps}
+use Rattle.pool.specs.Pool.{Pool, stack, InOrder, PoolFor}
 
 -- the operand l, in the rows from a on
 abbrev pub latestAt : ℕ → Latest → List ℕ → List ℕ → Option Query

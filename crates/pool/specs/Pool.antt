@@ -10,6 +10,7 @@ use Rattle.meaning.specs.TreeQuery.{Query}
 use Rattle.meaning.specs.Gluing.{plain}
 use Rattle.meaning.specs.Limits.{mostPending, mostSteps}
 use Rattle.meaning.specs.Word.{Pending, takes, answered}
+use Rattle.theory.proofs.Accepted.{allSteps}
 use Rattle.theory.proofs.Plain.{TreeO}
 use Rattle.glue.specs.declared.trees.Built.{Built}
 use Rattle.glue.specs.Rows.{poolRows}
@@ -54,10 +55,6 @@ abbrev pub Trees : Pool → ℕ → Type 0
 Trees p n = (k : ℕ) → k < n → TreeO (operandAt p k)
 
 -- ------------------------------------------------------------------ the word's pending operands
-abbrev pub allSteps : List Expr → ℕ
-allSteps [] = 0
-allSteps (e ∷ es) = steps e + allSteps es
-
 -- the pool holds the plain tree queries of the operands that are pending in the word
 pub record PoolFor (p : Pool) (n : ℕ) (st : Pending) : Type 0 where
   pub order : InOrder p n

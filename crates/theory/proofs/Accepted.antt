@@ -22,13 +22,13 @@ abbrev Holds : {A : Type 0} → (A → Type 0) → Outcome A → Type 0
 Holds P (refused n p) = Unit {0}
 Holds P (answered a) = P a
 
-abbrev stepsAll : List Expr → ℕ
-stepsAll [] = 0
-stepsAll (e ∷ es) = steps e + stepsAll es
+abbrev pub allSteps : List Expr → ℕ
+allSteps [] = 0
+allSteps (e ∷ es) = steps e + allSteps es
 
 -- the steps counted are those of the pending operands, and no more than 255; every label was read from a sign
 record Sound (st : Pending) : Type 0 where
-  count : stepsAll (st .operands) ≡ st .steps
+  count : allSteps (st .operands) ≡ st .steps
   few : st .steps ≤ 255
   labels : Each (LabelsIn InRange) (st .operands)
 
@@ -70,12 +70,12 @@ applied-sound (operand e) b st at (q, l) h = go (ltb (length (st .operands)) 256
     go false = tt
 applied-sound (unary f) b st at ok h = go (st .operands) (h .count) (h .labels)
   where
-    go : (es : List Expr) → stepsAll es ≡ st .steps → Each (LabelsIn InRange) es → Holds Sound (onOne f es at (st .steps))
+    go : (es : List Expr) → allSteps es ≡ st .steps → Each (LabelsIn InRange) es → Holds Sound (onOne f es at (st .steps))
     go [] c l = tt
     go (e ∷ es) c (le, ls) = record { count = omega (arith, (ok e) .0); few = h .few; labels = ((ok e) .1 le, ls) }
 applied-sound (binary f) b st at ok h = go (st .operands) (h .count) (h .labels)
   where
-    go : (es : List Expr) → stepsAll es ≡ st .steps → Each (LabelsIn InRange) es → Holds Sound (onTwo f es at (st .steps))
+    go : (es : List Expr) → allSteps es ≡ st .steps → Each (LabelsIn InRange) es → Holds Sound (onTwo f es at (st .steps))
     go [] c l = tt
     go (e ∷ []) c l = tt
     go (e ∷ (d ∷ es)) c (le, (ld, ls)) = record { count = omega (arith, (ok d e) .0); few = h .few; labels = ((ok d e) .1 ld le, ls) }
@@ -88,7 +88,7 @@ end-within : (word : List ℕ) (st : Pending) → Sound st → Holds Within (atE
 unfolding atEnd
 end-within word st h = go (st .operands) (h .count) (h .labels)
   where
-    go : (es : List Expr) → stepsAll es ≡ st .steps → Each (LabelsIn InRange) es → Holds Within (onlyOne es (length word))
+    go : (es : List Expr) → allSteps es ≡ st .steps → Each (LabelsIn InRange) es → Holds Within (onlyOne es (length word))
     go [] c l = tt
     go (e ∷ []) c (le, ls) = (omega (arith, h .few), le)
     go (e ∷ (d ∷ es)) c l = tt

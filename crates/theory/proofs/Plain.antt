@@ -104,28 +104,6 @@ abbrev pub TreeO : Option Query → Type 0
 TreeO none = Unit {0}
 TreeO (some Q) = TreeQuery Q
 
-abbrev pub Short : ℕ → Option Query → Type 0
-Short n none = Unit {0}
-Short n (some R) = suc (nodes R) ≤ n
-
-glues-facts : (S : Doc → ℕ → ℕ → Type 0) (P Q : Query) (o : Option Query) → GluesO S P Q o → TreeO o × Short (nodes P + nodes Q) o
-glues-facts S P Q none w = (tt, tt)
-glues-facts S P Q (some R) w = (w .valid, w .short)
-
--- gluing gives a tree query
-pub composed-tree : (P Q : Query) → TreeQuery P → TreeQuery Q → TreeO (composed P Q)
-composed-tree P Q vp vq = (glues-facts (Comp P Q) P Q (composed P Q) (composed-glues P Q vp vq)) .0
-
-pub intersected-tree : (P Q : Query) → TreeQuery P → TreeQuery Q → TreeO (intersected P Q)
-intersected-tree P Q vp vq = (glues-facts (Both P Q) P Q (intersected P Q) (intersected-glues P Q vp vq)) .0
-
--- and loses at least one row
-pub composed-short : (P Q : Query) → TreeQuery P → TreeQuery Q → Short (nodes P + nodes Q) (composed P Q)
-composed-short P Q vp vq = (glues-facts (Comp P Q) P Q (composed P Q) (composed-glues P Q vp vq)) .1
-
-pub intersected-short : (P Q : Query) → TreeQuery P → TreeQuery Q → Short (nodes P + nodes Q) (intersected P Q)
-intersected-short P Q vp vq = (glues-facts (Both P Q) P Q (intersected P Q) (intersected-glues P Q vp vq)) .1
-
 -- ------------------------------------------------------------------ one node, and one edge
 one-valid : (l : Lab) → TreeQuery (oneNode l)
 one-valid l = record {
