@@ -11,8 +11,11 @@ ghost use Rattle.bits.specs.Bits.{bitOf};
 ghost use Rattle.document.specs.Nodes.{RowIs};
 ghost use Rattle.matching.specs.Table.{Parents, FromByte, Upto, ParentOf, Added, RowInside};
 
+// A flag for each node of a document.
+type Flags = [u8; MOST_ROWS];
+
 // Flags the parent of node x.
-fn mark_node(x: usize, parents: &[u32], has: &mut [u8])
+fn mark_node(x: usize, parents: &[u32], has: &mut Flags)
     requires { ⌜ Parents (now parents) × (mostRows ≤ length (now has)) × (x < length (now parents)) ⌝ }
     ensures { λ _. ⌜ Added (now (has .entry)) (λ v. getD (now (parents .entry)) x 0 ≡ v) (now (has .exit)) ⌝ }
 {
@@ -21,7 +24,7 @@ fn mark_node(x: usize, parents: &[u32], has: &mut [u8])
 }
 
 // Flags the parent of node x, if bit k of b is set.
-fn mark_parent(b: u8, k: usize, x: usize, parents: &[u32], has: &mut [u8])
+fn mark_parent(b: u8, k: usize, x: usize, parents: &[u32], has: &mut Flags)
     requires { ⌜ Parents (now parents) × (mostRows ≤ length (now has)) × (k < 8) × (bitOf b k ≡ true → x < length (now parents)) ⌝ }
     ensures { λ _. ⌜ Added (now (has .entry)) (λ v. (bitOf b k ≡ true) × (getD (now (parents .entry)) x 0 ≡ v)) (now (has .exit)) ⌝ }
 {
@@ -32,7 +35,7 @@ fn mark_parent(b: u8, k: usize, x: usize, parents: &[u32], has: &mut [u8])
 }
 
 // Flags the parents of the nodes whose bits are set in a byte, node `first` being its lowest bit.
-fn mark_parents(byte: u8, first: usize, parents: &[u32], has: &mut [u8])
+fn mark_parents(byte: u8, first: usize, parents: &[u32], has: &mut Flags)
     requires { ⌜
         Parents (now parents) × (mostRows ≤ length (now has)) × (first ≤ mostRows)
         × ((k : ℕ) → bitOf byte k ≡ true → first + k < length (now parents)) ⌝ }
@@ -46,7 +49,7 @@ fn mark_parents(byte: u8, first: usize, parents: &[u32], has: &mut [u8])
 }
 
 // Flags the parents of eight nodes, from node `first` on.
-fn mark_eight(first: usize, parents: &[u32], has: &mut [u8])
+fn mark_eight(first: usize, parents: &[u32], has: &mut Flags)
     requires { ⌜ Parents (now parents) × (mostRows ≤ length (now has)) × (first + 8 ≤ length (now parents)) ⌝ }
     ensures { λ _. ⌜ Added (now (has .entry)) (Upto (λ k v. getD (now (parents .entry)) (first + k) 0 ≡ v) 8) (now (has .exit)) ⌝ }
 {
@@ -58,7 +61,7 @@ fn mark_eight(first: usize, parents: &[u32], has: &mut [u8])
 }
 
 // As mark_parents. Empty bytes, and full ones, as a wildcard's row has many, need no test of each bit.
-fn mark_byte(byte: u8, first: usize, parents: &[u32], has: &mut [u8])
+fn mark_byte(byte: u8, first: usize, parents: &[u32], has: &mut Flags)
     requires { ⌜
         Parents (now parents) × (mostRows ≤ length (now has)) × (first ≤ mostRows)
         × ((k : ℕ) → bitOf byte k ≡ true → first + k < length (now parents)) ⌝ }
@@ -75,7 +78,7 @@ fn mark_byte(byte: u8, first: usize, parents: &[u32], has: &mut [u8])
 }
 
 // Flags the parents of the nodes in row c. Node 0, the root, has none: the first byte is read without its lowest bit.
-fn mark_row(w: &[u8], c: usize, parents: &[u32], has: &mut [u8])
+fn mark_row(w: &[u8], c: usize, parents: &[u32], has: &mut Flags)
     requires { ⌜
         Parents (now parents) × (mostRows ≤ length (now has)) × (c < mostNodes) × (128 * c + 128 ≤ length (now w))
         × RowInside (now w) c (now parents) ⌝ }
@@ -100,7 +103,8 @@ pub fn keep_parents(w: &mut [u8], u: usize, c: usize, parents: &[u32])
         × RowInside (now w) u (now parents) ⌝ }
     ensures { λ _. ⌜
         RowIs (now (w .entry)) u
-        (λ v. (bitAt (now (w .entry)) u v ≡ true) × ParentOf (now (w .entry)) c (now (parents .entry)) (length (now (parents .entry))) v) (now (w .exit)) ⌝ }
+        (λ v. (bitAt (now (w .entry)) u v ≡ true) × ParentOf (now (w .entry)) c (now (parents .entry)) (length (now (parents .entry))) v)
+        (now (w .exit)) ⌝ }
 {
     let mut has = [0u8; MOST_ROWS];
     mark_row(w, c, parents, &mut has);

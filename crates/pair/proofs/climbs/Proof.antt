@@ -3,6 +3,7 @@ use mathlib.Core.Path.{_≡_}
 use Prim.Native.Nat.{_<_}
 use native.Mathlib.Omega.{arith}
 use lib.ListN.{length}
+use borrow.Author.Needs.{needs}
 use Rattle.document.proofs.Nodes.{iff-same}
 use Rattle.pair.proofs.Climbing.{up-less}
 use Rattle.pair.proofs.Pair.{stuck, stepped, in-table, linked, parent-node, Climbed, climbed-more, climbed-not, climbed-all}
@@ -35,9 +36,6 @@ at-requires c κs =
     let l = c .before .before .before in
     let (_, q, lu, _) = l .before .before .before .pre in
     linked q (l .loop .c) (l .loop .inv .1 _ q lu .0)
-
-parent-at-requires : tie.Need-parent-at-requires Inv-loop μ-loop
-parent-at-requires c κs = c .before .before .before .before .loop .inv .0
 
 loop-less : tie.Need-loop-less Inv-loop μ-loop
 loop-less c =
@@ -73,5 +71,5 @@ returns-2 c =
 pub climbs-spec : {M : Type 1} → statement M
 climbs-spec =
     tie.close
-    (tie.spec Inv-loop μ-loop loop-holds can-climb-requires returns at-requires parent-at-requires loop-less loop-again test-bit-requires
+    (tie.spec Inv-loop μ-loop loop-holds can-climb-requires returns at-requires (λ c κs. search needs) loop-less loop-again test-bit-requires
     returns-2)

@@ -2,6 +2,7 @@
 use Prim.Native.Nat.{_+_, _<_}
 use native.Mathlib.Omega.{arith}
 use lib.ListN.{length}
+use borrow.Author.Needs.{needs}
 use Rattle.pair.proofs.Climbing.{up-less}
 use Rattle.pair.proofs.Pair.{stuck, stepped, borne-s, borne-d, in-table, linked, parent-node, Meeting}
 use Rattle.pair.proofs.Pair.{meeting-none, meeting-more, meeting-not, meeting-more-d, meeting-not-d, meeting-apart, meeting-all}
@@ -44,9 +45,6 @@ at-requires c κs =
     let q = l .before .before .before .before .before .pre .0 in
     linked q (l .loop .u) (l .loop .inv .2 q .0)
 
-parent-at-requires : tie.Need-parent-at-requires Inv-loop μ-loop
-parent-at-requires c κs = c .before .before .before .before .before .loop .inv .0
-
 loop-less : tie.Need-loop-less Inv-loop μ-loop
 loop-less c =
     let b = c .before .before .before .before in
@@ -82,9 +80,6 @@ at-requires-2 c κs =
     let l = c .before .before .before .before in
     let q = l .before .before .before .before .before .pre .0 in
     linked q (l .loop .v) (l .loop .inv .2 q .1)
-
-parent-at-requires-2 : tie.Need-parent-at-requires-2 Inv-loop μ-loop
-parent-at-requires-2 c κs = c .before .before .before .before .before .loop .inv .1
 
 loop-less-2 : tie.Need-loop-less-2 Inv-loop μ-loop
 loop-less-2 c =
@@ -125,6 +120,6 @@ returns-4 c = meeting-all _ _ _ _ _ _ _ _ _ _ (c .before .before .before .loop .
 pub pair-selected-spec : {M : Type 1} → statement M
 pair-selected-spec =
     tie.close
-    (tie.spec Inv-loop μ-loop row-of-requires row-of-requires-2 loop-holds can-climb-requires returns at-requires parent-at-requires
-    loop-less loop-again can-climb-requires-2 returns-2 at-requires-2 parent-at-requires-2 loop-less-2 loop-again-2 returns-3
+    (tie.spec Inv-loop μ-loop row-of-requires row-of-requires-2 loop-holds can-climb-requires returns at-requires (λ c κs. search needs)
+    loop-less loop-again can-climb-requires-2 returns-2 at-requires-2 (λ c κs. search needs) loop-less-2 loop-again-2 returns-3
     climbs-requires returns-4)

@@ -16,11 +16,6 @@ Inv-loop w span n u end c₀ c = (u < c) × (end ≤ n) × Children span u c end
 abbrev μ-loop : tie.MeasureT-loop
 μ-loop w span n u end c₀ c = end - c
 
-add-end : tie.Need-add-end Inv-loop μ-loop
-add-end c =
-    let s = c .before .before in
-    let o = row-opens _ _ (s .pre .2) _ (s .pre .3) in omega (arith, c .at .ensures .0, o .inside, s .pre .1)
-
 loop-holds : tie.Need-loop-holds Inv-loop μ-loop
 loop-holds c =
     let s = c .before .before in
@@ -39,13 +34,6 @@ returns c =
       row-clear _ _ (sym (c .before .row-clear .ensures) ∙ c .if1 .taken),
     )
 
-add-c-2 : tie.Need-add-c-2 Inv-loop μ-loop
-add-c-2 c =
-    let b = c .before .before .before in
-    let l = b .before in
-    let o = child-span _ _ _ _ (b .loop-test .taken) (l .loop .inv .2) in
-    omega (arith, c .at2 .ensures .0, o .1, l .loop .inv .1, l .before .before .before .pre .1)
-
 loop-less : tie.Need-loop-less Inv-loop μ-loop
 loop-less c =
     let b = c .before .before .before in
@@ -63,5 +51,5 @@ returns-2 c = λ e. never cc
 pub child-nowhere-spec : {M : Type 1} → statement M
 child-nowhere-spec =
     tie.close
-    (tie.spec Inv-loop μ-loop (λ c κs. search needs) add-end (λ c. search needs) loop-holds (λ c κs. search needs) returns (λ c κs. search needs) add-c-2 loop-less loop-again
-    returns-2)
+    (tie.spec Inv-loop μ-loop (λ c κs. search needs) (λ c. search needs) (λ c. search needs) loop-holds (λ c κs. search needs) returns
+    (λ c κs. search needs) (λ c. search needs) loop-less loop-again returns-2)

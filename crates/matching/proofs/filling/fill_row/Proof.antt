@@ -25,11 +25,6 @@ label-row-requires c κs =
     let p = c .before .before .before .before .before .pre in let G = good-table _ _ (p .table) in
     (search needs, search needs, omega (arith, G .few, G .labels), p .clear)
 
-add-end : tie.Need-add-end Inv-loop μ-loop
-add-end c =
-    let s = c .before .before .before .before .before .before .before .before .before in
-    let o = row-opens _ _ (s .pre .query .laid) _ (s .pre .row) in omega (arith, c .at .ensures .0, o .inside, s .pre .query .few)
-
 loop-holds : tie.Need-loop-holds Inv-loop μ-loop
 loop-holds c =
     let b = c .before .before .before in
@@ -58,29 +53,14 @@ keep-parents-requires : tie.Need-keep-parents-requires Inv-loop μ-loop
 keep-parents-requires c κs =
     let b = c .before .before .before .before in
     let l = b .before in
-    let b2 = l .before .before .before .before in
-    let s = b2 .before .before .before .before .before .before in
-    let G = good-table _ _ (s .pre .table) in (
-      good-parents _ _ G,
-      omega (arith, s .pre .row, s .pre .query .few),
-      omega (arith, s .pre .query .few, l .loop .inv .1, b .loop-test .taken),
-      omega (arith, s .pre .room, b2 .label-row .ensures .only .same, l .loop .inv .2 .same),
+    let s = l .before .before .before .before .before .before .before .before .before .before in (
+      good-parents _ _ (good-table _ _ (s .pre .table)),
+      search needs,
+      search needs,
+      search needs,
       rows-inside (s .args .code .now) (s .args .span .now) _ _ (s .pre .table) _ _ _ (l .loop .inv .3) (l .loop .c) (omega (arith, l .loop .inv .0))
           (omega (arith, l .loop .inv .1, b .loop-test .taken)),
       l .loop .inv .5,
-    )
-
-add-c-2 : tie.Need-add-c-2 Inv-loop μ-loop
-add-c-2 c =
-    let b = c .before .before .before .before .before .before .before .before in
-    let l = b .before in
-    let o = partly-next _ _ _ _ _ _ _ _ (b .loop-test .taken) (l .loop .inv .4) in
-    omega (
-      arith,
-      c .at2 .ensures .0,
-      o .1,
-      l .loop .inv .1,
-      l .before .before .before .before .before .before .before .before .before .before .pre .query .few,
     )
 
 loop-less : tie.Need-loop-less Inv-loop μ-loop
@@ -94,8 +74,7 @@ loop-again c =
     let b2 = c .before .before .before in
     let b = b2 .before .before .before .before .before in
     let l2 = b .before in
-    let s = l2 .before .before .before .before .before .before .before .before .before .before in
-    let o = partly-next _ _ _ _ _ _ _ _ (b .loop-test .taken) (l2 .loop .inv .4) in (
+    let s = l2 .before .before .before .before .before .before .before .before .before .before in (
       omega (arith, l2 .loop .inv .0),
       l2 .loop .inv .1,
       only-then _ _ _ _ (l2 .loop .inv .2) (b2 .keep-parents .ensures .only),
@@ -120,5 +99,6 @@ returns-2 c =
 pub fill-row-spec : {M : Type 1} → statement M
 fill-row-spec =
     tie.close
-    (tie.spec Inv-loop μ-loop (λ c. search needs) (λ c. search needs) label-row-requires (λ c κs. search needs) add-end (λ c. search needs) loop-holds
-    (λ c κs. search needs) (λ c. search needs) returns keep-parents-requires (λ c κs. search needs) add-c-2 loop-less loop-again (λ c. search needs) returns-2)
+    (tie.spec Inv-loop μ-loop (λ c. search needs) (λ c. search needs) label-row-requires (λ c κs. search needs) (λ c. search needs)
+    (λ c. search needs) loop-holds (λ c κs. search needs) (λ c. search needs) returns keep-parents-requires (λ c κs. search needs)
+    (λ c. search needs) loop-less loop-again (λ c. search needs) returns-2)

@@ -6,21 +6,18 @@ use Rattle.matching.proofs.kinship.mark_byte.Tie as tie
 
 returns : tie.Need-returns
 returns c =
-    let s = c .before .before .before in
+    let s = c .before .before in
     empty-byte (s .args .parents .now) _ _ (s .args .first) (c .if1 .taken)
 
 mark-eight-requires : tie.Need-mark-eight-requires
 mark-eight-requires c κs =
-    let s = c .before .before .before .before .before in
-    (s .pre .0, s .pre .1, full-inside (s .args .parents .now) _ _ (c .before .if2 .taken) (s .pre .3))
+    let s = c .before .before .before .before in
+    (search needs, search needs, full-inside (s .args .parents .now) _ _ (c .before .if2 .taken) (s .pre .3))
 
 returns-2 : tie.Need-returns-2
 returns-2 c =
-    let b = c .before .before in
-    let s = b .before .before .before .before .before .before in
-    full-byte (s .args .parents .now) _ _ _ (s .args .first) (b .before .before .if2 .taken) (b .mark-eight .ensures)
+    let s = c .before .before .before .before .before in
+    full-byte (s .args .parents .now) _ _ _ (s .args .first) (c .before .before .if2 .taken) (c .mark-eight .ensures)
 
 pub mark-byte-spec : {M : Type 1} → statement M
-mark-byte-spec =
-    tie.close
-    (tie.spec returns mark-eight-requires (λ c. search needs) returns-2 (λ c κs. search needs) (λ c. search needs) (λ c. search needs))
+mark-byte-spec = tie.close (tie.spec returns mark-eight-requires returns-2 (λ c κs. search needs) (λ c. search needs))

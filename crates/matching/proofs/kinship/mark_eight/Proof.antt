@@ -16,15 +16,15 @@ abbrev μ-loop : tie.MeasureT-loop
 μ-loop first parents has₀ k₀ has k = 8 - k
 
 loop-holds : tie.Need-loop-holds Inv-loop μ-loop
-loop-holds c = (omega arith, upto-none (λ j v. getD (c .before .before .args .parents .now) (c .before .before .args .first + j) 0 ≡ v) _)
+loop-holds c = (omega arith, upto-none (λ j v. getD (c .before .args .parents .now) (c .before .args .first + j) 0 ≡ v) _)
 
 loop-again : tie.Need-loop-again Inv-loop μ-loop
 loop-again c =
-    let l = c .before .before .before .before .before in
-    let s = l .before .before .before in (
+    let l = c .before .before .before in
+    let s = l .before .before in (
       omega arith,
       upto-more (λ j v. getD (s .args .parents .now) (s .args .first + j) 0 ≡ v) _ _ _ _ (l .loop .inv .1)
-          (c .before .before .mark-node .ensures),
+          (c .mark-node .ensures),
     )
 
 returns : tie.Need-returns Inv-loop μ-loop
@@ -33,5 +33,4 @@ returns c = let z : c .before .loop .k ≡ 8 = omega arith in rw z at (c .before
 pub mark-eight-spec : {M : Type 1} → statement M
 mark-eight-spec =
     tie.close
-    (tie.spec Inv-loop μ-loop loop-holds (λ c. search needs) (λ c κs. search needs) (λ c. search needs) (λ c. search needs) loop-again (λ c. search needs)
-    returns)
+    (tie.spec Inv-loop μ-loop loop-holds (λ c. search needs) (λ c κs. search needs) (λ c. search needs) (λ c. search needs) loop-again returns)

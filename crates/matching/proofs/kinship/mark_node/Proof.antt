@@ -5,15 +5,13 @@ use borrow.Author.Needs.{needs}
 use Rattle.matching.proofs.kinship.mark_node.Statement.{statement}
 use Rattle.matching.proofs.kinship.mark_node.Tie as tie
 
-slice-write-has : tie.Need-slice-write-has
-slice-write-has c =
-    let s = c .before .before .before in
-    omega (arith, c .parent-at .ensures, s .pre .0 .small _ (s .pre .2), s .pre .1)
+element-write-has : tie.Need-element-write-has
+element-write-has c = let p = c .before .before .pre in omega (arith, c .parent-at .ensures, p .0 .small _ (p .2))
 
 returns : tie.Need-returns
 returns c =
-    let s = c .before .before .before in
-    rw (← c .parent-at .ensures) (added-one _ _ (omega (arith, c .parent-at .ensures, s .pre .0 .small _ (s .pre .2), s .pre .1)))
+    let p = c .before .before .pre in
+    rw (← c .parent-at .ensures) (added-one _ _ (omega (arith, c .parent-at .ensures, p .0 .small _ (p .2), p .1)))
 
 pub mark-node-spec : {M : Type 1} → statement M
-mark-node-spec = tie.close (tie.spec (λ c κs. search needs) slice-write-has (λ c. search needs) returns)
+mark-node-spec = tie.close (tie.spec (λ c κs. search needs) element-write-has returns)

@@ -19,29 +19,28 @@ abbrev μ-loop : tie.MeasureT-loop
 
 loop-holds : tie.Need-loop-holds Inv-loop μ-loop
 loop-holds c =
-    let s = c .before .before in
+    let s = c .before in
     (omega arith, upto-none (λ j v. (bitOf (s .args .byte) j ≡ true) × (getD (s .args .parents .now) (s .args .first + j) 0 ≡ v)) _)
 
 mark-parent-requires : tie.Need-mark-parent-requires Inv-loop μ-loop
-mark-parent-requires c κs = (search needs, search needs, search needs, λ e. c .before .before .before .before .before .pre .3 _ e)
+mark-parent-requires c κs = (search needs, search needs, search needs, λ e. c .before .before .before .before .pre .3 _ e)
 
 loop-again : tie.Need-loop-again Inv-loop μ-loop
 loop-again c =
-    let l = c .before .before .before .before .before in
-    let s = l .before .before .before in (
+    let l = c .before .before .before in
+    let s = l .before .before in (
       omega arith,
       upto-more (λ j v. (bitOf (s .args .byte) j ≡ true) × (getD (s .args .parents .now) (s .args .first + j) 0 ≡ v)) _ _ _ _
-          (l .loop .inv .1) (c .before .before .mark-parent .ensures),
+          (l .loop .inv .1) (c .mark-parent .ensures),
     )
 
 returns : tie.Need-returns Inv-loop μ-loop
 returns c =
-    let s = c .before .before .before .before in
+    let s = c .before .before .before in
     let z : c .before .loop .k ≡ 8 = omega arith in whole-byte (s .args .parents .now) _ _ (s .args .byte) (s .args .first) (omega arith)
     (rw z at (c .before .loop .inv .1))
 
 pub mark-parents-spec : {M : Type 1} → statement M
 mark-parents-spec =
     tie.close
-    (tie.spec Inv-loop μ-loop loop-holds (λ c. search needs) mark-parent-requires (λ c. search needs) (λ c. search needs) loop-again
-    (λ c. search needs) returns)
+    (tie.spec Inv-loop μ-loop loop-holds (λ c. search needs) mark-parent-requires (λ c. search needs) (λ c. search needs) loop-again returns)

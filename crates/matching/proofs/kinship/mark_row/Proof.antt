@@ -19,7 +19,7 @@ abbrev μ-loop : tie.MeasureT-loop
 
 mark-parents-requires : tie.Need-mark-parents-requires Inv-loop μ-loop
 mark-parents-requires c κs =
-    let b = c .before .before .before .before in
+    let b = c .before .before .before in
     let s = b .before in
     let lb : getD (s .args .w .now) (128 * s .args .c) 0 < 256 = omega (arith, b .shared-slice-known .given (128 * s .args .c)) in
     (search needs, search needs, omega arith, first-inside _ _ (s .args .parents .now) (s .pre .4) lb)
@@ -27,37 +27,35 @@ mark-parents-requires c κs =
 mark-byte-requires : tie.Need-mark-byte-requires Inv-loop μ-loop
 mark-byte-requires c κs =
     let l = c .before .before .before in
-    let b = l .before .before .before in
-    let b2 = b .before .before .before .before .before in
+    let b2 = l .before .before .before .before .before in
     let s = b2 .before in
     let lb : getD (s .args .w .now) (128 * s .args .c + l .loop .i) 0 < 256 = omega
     (arith, b2 .shared-slice-known .given (128 * s .args .c + l .loop .i)) in (
-      s .pre .0,
-      omega (arith, s .pre .1, b .mark-parents .ensures .same, l .loop .inv .2),
-      omega (arith, s .pre .0 .few, l .loop .inv .1),
+      search needs,
+      search needs,
+      search needs,
       byte-inside _ _ (s .args .parents .now) (s .pre .4) (l .loop .i) (omega (arith, s .pre .0 .few, l .loop .inv .1)) lb,
     )
 
 loop-again : tie.Need-loop-again Inv-loop μ-loop
 loop-again c =
-    let b = c .before .before in
-    let l = b .before .before .before .before in
-    let b2 = l .before .before .before .before .before .before .before .before in
+    let l = c .before .before .before .before in
+    let b2 = l .before .before .before .before .before in
     let s = b2 .before in
     let lb : getD (s .args .w .now) (128 * s .args .c + l .loop .i) 0 < 256 = omega
     (arith, b2 .shared-slice-known .given (128 * s .args .c + l .loop .i)) in (
       omega arith,
       omega arith,
-      b .mark-byte .ensures .same ∙ l .loop .inv .2,
+      c .mark-byte .ensures .same ∙ l .loop .inv .2,
       λ h a. added-byte _ _ (s .args .parents .now) (s .pre .4) _ _ _
-          (l .loop .i) (l .loop .inv .0) lb (l .loop .inv .3 h a) (b .mark-byte .ensures),
+          (l .loop .i) (l .loop .inv .0) lb (l .loop .inv .3 h a) (c .mark-byte .ensures),
     )
 
 returns : tie.Need-returns Inv-loop μ-loop
 returns c =
     let l = c .before in
-    let b = l .before .before .before in
-    let b2 = b .before .before .before .before .before in
+    let b = l .before in
+    let b2 = b .before .before .before .before in
     let s = b2 .before in
     let lb : getD (s .args .w .now) (128 * s .args .c) 0 < 256 = omega (arith, b2 .shared-slice-known .given (128 * s .args .c)) in
     added-row _ _ (s .args .parents .now) (s .pre .4) _ _ (l .loop .i) (omega arith) (omega (arith, s .pre .0 .few, l .loop .inv .1))
@@ -66,5 +64,5 @@ returns c =
 pub mark-row-spec : {M : Type 1} → statement M
 mark-row-spec =
     tie.close
-    (tie.spec Inv-loop μ-loop (λ c. search needs) (λ c. search needs) (λ c. search needs) mark-parents-requires (λ c. search needs) (λ c. search needs)
-    (λ c. search needs) (λ c. search needs) mark-byte-requires (λ c. search needs) (λ c. search needs) loop-again (λ c. search needs) returns)
+    (tie.spec Inv-loop μ-loop (λ c. search needs) (λ c. search needs) (λ c. search needs) mark-parents-requires (λ c. search needs)
+    (λ c. search needs) (λ c. search needs) (λ c. search needs) mark-byte-requires (λ c. search needs) (λ c. search needs) loop-again returns)
