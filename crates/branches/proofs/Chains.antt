@@ -17,8 +17,8 @@ use Rattle.rows.proofs.Rows.{size-holds, holds-first, holds-opens, row-opens, r
 use Rattle.groups.specs.Put.{Written}
 use Rattle.branches.specs.Joining.{joint, fill, factor}
 use Rattle.branches.specs.Factors.{Row, tagged, under, labelAt, onwardAt, chainAt, offAt, branchesAt, ownAt}
-use Rattle.branches.proofs.Joining.{fill-nil, fill-one, fill-child, fill-first, factor-first, factor-rest, factor-then, written-is}
-use Rattle.branches.proofs.Joining.{written-then, written-length, Left, left-start, left-is, left-end, left-fits, left-step}
+use Rattle.branches.proofs.Joining.{fill-nil, fill-one, fill-first, factor-first, factor-rest, factor-then, written-is}
+use Rattle.branches.proofs.Joining.{written-then, written-length, Left, left-start, left-is, left-end, left-fits, left-step, child-step}
 use Rattle.branches.proofs.Covers.{either-covers, covers-before}
 
 pub labelled-append : (l : Lab) (xs : List Expr) → labelled l xs ≡ labelled l [] ++ xs
@@ -62,7 +62,7 @@ row-in R c l = let o = row-open R .inside in record { mark = R .mark; up = R .up
 
 module _ (code span : List ℕ) (u : ℕ) where
   -- "child, the node's label, and then"
-  chain-parts : chainAt code span u ≡ (child ∷ []) ++ (labelAt code u ++ onwardAt code span u)
+  chain-parts : chainAt code span u ≡ child ∷ (labelAt code u ++ onwardAt code span u)
   unfolding chainAt labelAt
   chain-parts = ap (λ (l : List Expr). child ∷ l) (labelled-append (labOf (getD code u 0)) (onwardAt code span u))
 
@@ -190,21 +190,12 @@ module _ {code kids span : List ℕ} {u : ℕ} (R : Row code kids span u) where
 -- ------------------------------------------------------------------ writing a chain
 -- child, the label, and then what goes on below
 module _ (code span : List ℕ) (u : ℕ) (d : List ℕ) {from at : ℕ} (le : from ≤ at) (l : at + length (fill from at (chainAt code span u)) ≤ length d) where
-  L₀ : Left d from at (chainAt code span u) d at ((child ∷ []) ++ (labelAt code u ++ onwardAt code span u))
-  L₀ = left-is (chain-parts code span u) (left-start le l)
+  pub chain-start : Left d from at (chainAt code span u) d at (child ∷ (labelAt code u ++ onwardAt code span u))
+  chain-start = left-is (chain-parts code span u) (left-start le l)
 
-  pub child-fits : at + length (factor from at (num 2)) ≤ length d
-  child-fits = rw (← fill-child from at) (left-fits (child ∷ []) _ L₀)
-
-  module _ {d₁ : List ℕ} {a : ℕ} (v : Written d at (factor from at (num 2)) d₁ a) where
-    L₁ : Left d from at (chainAt code span u) d₁ a (labelAt code u ++ onwardAt code span u)
-    L₁ = left-step (child ∷ []) _ L₀ (written-is (sym (fill-child from at)) v)
-
-    pub label-fits : a + length (fill from a (labelAt code u)) ≤ length d₁
-    label-fits = left-fits (labelAt code u) _ L₁
-
-    pub label-done : {d₂ : List ℕ} {b : ℕ} → Written d₁ a (fill from a (labelAt code u)) d₂ b → Left d from at (chainAt code span u) d₂ b (onwardAt code span u)
-    label-done w = left-step (labelAt code u) _ L₁ w
+  pub label-done : {d₁ d₂ : List ℕ} {a b : ℕ} → Written d at (factor from at (num 2)) d₁ a → Written d₁ a (fill from a (labelAt code u)) d₂ b
+      → Left d from at (chainAt code span u) d₂ b (onwardAt code span u)
+  label-done v w = left-step (labelAt code u) _ (child-step chain-start v) w
 
 -- ------------------------------------------------------------------ writing a branch
 -- "A branch is written as a chain", under one first projection
@@ -277,14 +268,7 @@ module _ (code span : List ℕ) (x y c from at : ℕ) where
 
 -- ------------------------------------------------------------------ a node's own factors
 -- the label, and then the branches off the ways
-module _ (code span : List ℕ) (x y u : ℕ) (d : List ℕ) {from at : ℕ} (le : from ≤ at) (l : at + length (fill from at (ownAt code span x y u)) ≤ length d) where
-  O₀ : Left d from at (ownAt code span x y u) d at (labelAt code u ++ branchesAt code span x y u)
-  unfolding ownAt
-  O₀ = left-start le l
-
-  pub own-label : at + length (fill from at (labelAt code u)) ≤ length d
-  own-label = left-fits (labelAt code u) _ O₀
-
-  pub own-rest : {d₁ : List ℕ} {a : ℕ} → Written d at (fill from at (labelAt code u)) d₁ a
-      → Left d from at (ownAt code span x y u) d₁ a (branchesAt code span x y u)
-  own-rest v = left-step (labelAt code u) _ O₀ v
+pub own-start : (code span : List ℕ) (x y u : ℕ) (d : List ℕ) {from at : ℕ} → from ≤ at → at + length (fill from at (ownAt code span x y u)) ≤ length d
+    → Left d from at (ownAt code span x y u) d at (labelAt code u ++ branchesAt code span x y u)
+unfolding ownAt
+own-start code span x y u d le l = left-start le l

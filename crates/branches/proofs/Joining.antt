@@ -113,6 +113,10 @@ pub fill-parent : (from at : ℕ) → fill from at (parent ∷ []) ≡ factor fr
 unfolding decLt
 fill-parent from at = fill-one from at parent
 
+pub fill-then : (ys zs : List Expr) {d d₁ d₂ : List ℕ} {from at a r : ℕ} → from ≤ at → Written d at (fill from at ys) d₁ a → Written d₁ a (fill from a zs) d₂ r
+    → Written d at (fill from at (ys ++ zs)) d₂ r
+fill-then ys zs {from = from} {at = at} l v w = written-is (rw (v .place) (sym (fill-append from at ys zs l))) (written-then v w)
+
 -- ------------------------------------------------------------------ a list of factors, part by part
 -- Of the factors xs, owed from place at₀ on, some stand in the room; those that are left, ys, belong to place `at`, and there is room for them.
 pub record Left (d₀ : List ℕ) (from at₀ : ℕ) (xs : List Expr) (d : List ℕ) (at : ℕ) (ys : List Expr) : Type 0 where
@@ -158,3 +162,11 @@ module _ {d₀ : List ℕ} {from at₀ : ℕ} {xs : List Expr} {d : List ℕ} {a
           places = lengths ∙ w .places;
           bytes = rw (v .bytes) (sym (put-append d at (fill from at ys) (fill from (at + length (fill from at ys)) zs))) ∙ ap (put d at) (sym parts) ∙ w .bytes;
         })
+
+  -- the next of them is a step down, one sign
+  module _ {zs : List Expr} (w : Left d₀ from at₀ xs d at (child ∷ zs)) where
+    pub child-fits : at + length (factor from at (num 2)) ≤ length d
+    child-fits = rw (← fill-child from at) (left-fits (child ∷ []) zs w)
+
+    pub child-step : {d₁ : List ℕ} {r : ℕ} → Written d at (factor from at (num 2)) d₁ r → Left d₀ from at₀ xs d₁ r zs
+    child-step v = left-step (child ∷ []) zs w (written-is (sym (fill-child from at)) v)

@@ -15,9 +15,8 @@ use Rattle.rows.proofs.Rows.{rows-top}
 use Rattle.groups.specs.Put.{Written}
 use Rattle.branches.specs.Joining.{joint, fill, factor}
 use Rattle.branches.specs.Factors.{Row, ownAt}
-use Rattle.branches.proofs.Joining.{fill-nil, fill-one, fill-first, fill-parent, factor-first, factor-rest, factor-then, written-nil}
-use Rattle.branches.proofs.Joining.{written-is, written-then, written-length, written-reached, first-fits}
-use Rattle.branches.proofs.Joining.{rest-fits, rest-done, Left, left-is, left-fits, left-step}
+use Rattle.branches.proofs.Joining.{fill-nil, fill-one, fill-first, fill-parent, fill-then, factor-first, factor-rest, factor-then, written-nil}
+use Rattle.branches.proofs.Joining.{written-is, written-then, written-length, written-reached, Left, left-start, left-is, left-step, left-fits}
 use Rattle.ways.specs.Ways.{Covers, Among, Part, Climb, upsAt, downsAt, wayAt}
 use Rattle.ways.proofs.Walk.{row-open, among-from, ups-step, downs-step, way-step, ups-end, downs-end, way-end}
 use Rattle.ways.proofs.Steps.{covers-self, parent-less, parent-covers, parent-among, parent-least}
@@ -70,56 +69,28 @@ module _ {code kids span up : List ℕ} {t s : ℕ} (C : Climb code kids span up
           )
 
   module _ (x : ℕ) (tx : t ≤ x) (v : Covers span x s) (ne : x ≡ t → ⊥)
-      (d₀ : List ℕ) {from : ℕ} {d : List ℕ} {at : ℕ} (w : Written d₀ from (fill from from (upsAt code span s x)) d at) where
-    -- something stands before, or nothing does
-    pub rise-reached : from ≤ at
-    rise-reached = written-reached (omega arith) w
+      {d₀ : List ℕ} {from : ℕ} {d : List ℕ} {at : ℕ} (w : Written d₀ from (fill from from (upsAt code span s x)) d at) where
+    pub rise-later : (zs : List Expr) × (upsAt code span s t ≡ upsAt code span s (getD up x 0) ++ zs)
+    rise-later = ups-begin (getD up x 0) (getD up x 0) (omega arith) (rise-from x tx v ne) (rise-covers x tx v ne)
 
-    abbrev own : List Expr
-    own = ownAt code span s s x
+    -- row x's own factors are the next, then parent
+    pub rise-left : from + length (fill from from (upsAt code span s t)) ≤ length d₀
+        → Left d₀ from from (upsAt code span s t) d at (ownAt code span s s x ++ ((parent ∷ []) ++ rise-later .0))
+    rise-left l =
+        left-step (upsAt code span s x) _
+        (left-is (rise-later .1 ∙ ap (λ (l : List Expr). l ++ rise-later .0) (rise-step x tx v ne) ∙ simp append-assoc) (left-start (omega arith) l)) w
 
-    later : List Expr
-    later = ups-begin (getD up x 0) (getD up x 0) (omega arith) (rise-from x tx v ne) (rise-covers x tx v ne) .0
+    module _ {d₁ : List ℕ} {a : ℕ} (y : Written d at (fill from at (ownAt code span s s x)) d₁ a) where
+      pub rise-parent : from + length (fill from from (upsAt code span s t)) ≤ length d₀ → a + length (factor from a (num 3)) ≤ length d₁
+      rise-parent l = rw (← fill-parent from a) (left-fits (parent ∷ []) _ (left-step (ownAt code span s s x) _ (rise-left l) y))
 
-    rise-parts : upsAt code span s t ≡ upsAt code span s x ++ (own ++ ((parent ∷ []) ++ later))
-    unfolding later
-    rise-parts =
-        ups-begin (getD up x 0) (getD up x 0) (omega arith) (rise-from x tx v ne) (rise-covers x tx v ne) .1
-        ∙ ap (λ (l : List Expr). l ++ later) (rise-step x tx v ne) ∙ simp append-assoc
+      pub rise-next : {d₂ : List ℕ} {r : ℕ} → Written d₁ a (factor from a (num 3)) d₂ r
+          → Written d₀ from (fill from from (upsAt code span s (getD up x 0))) d₂ r
+      rise-next z =
+          written-is (ap (fill from from) (sym (rise-step x tx v ne)))
+          (fill-then _ _ (omega arith) w (fill-then _ _ (written-reached (omega arith) w) y (written-is (sym (fill-parent from a)) z)))
 
-    module _ (l : from + length (fill from from (upsAt code span s t)) ≤ length d₀) where
-      rest-of-way : at + length (fill from at (own ++ ((parent ∷ []) ++ later))) ≤ length d
-      rest-of-way = rest-fits (upsAt code span s x) (own ++ ((parent ∷ []) ++ later)) rise-parts d₀ (omega arith) w l
-
-      pub rise-own : at + length (fill from at (ownAt code span s s x)) ≤ length d
-      rise-own = first-fits own ((parent ∷ []) ++ later) refl d rise-reached rest-of-way
-
-      pub rise-parent : {d₁ : List ℕ} {a : ℕ} → Written d at (fill from at (ownAt code span s s x)) d₁ a
-          → a + length (factor from a (num 3)) ≤ length d₁
-      rise-parent {d₁} {a} y =
-          rw (← fill-parent from a)
-          (first-fits (parent ∷ []) later refl d₁ (written-reached rise-reached y)
-          (rest-fits own ((parent ∷ []) ++ later) refl d rise-reached y rest-of-way))
-
-    pub rise-next : {d₁ d₂ : List ℕ} {a r : ℕ} → Written d at (fill from at (ownAt code span s s x)) d₁ a → Written d₁ a (factor from a (num 3)) d₂ r
-        → Written d₀ from (fill from from (upsAt code span s (getD up x 0))) d₂ r
-    rise-next {a = a} y z =
-        rest-done (upsAt code span s x) (own ++ (parent ∷ [])) (rise-step x tx v ne) d₀ (omega arith) w
-        (rest-done own (parent ∷ []) refl d rise-reached y (written-is (sym (fill-parent from a)) z))
-
--- ------------------------------------------------------------------ down, by two parts of the factors a row
-module _ {d₀ : List ℕ} {from at₀ : ℕ} {all-of : List Expr} {d : List ℕ} {at : ℕ} {xs : List Expr} (ys zs ws : List Expr) (e : xs ≡ ys ++ (zs ++ ws))
-    (L : Left d₀ from at₀ all-of d at xs) where
-  pub part-first : at₀ + length (fill from at₀ all-of) ≤ length d₀ → at + length (fill from at ys) ≤ length d
-  part-first l = left-fits ys (zs ++ ws) (left-is e L) l
-
-  module _ {d₁ : List ℕ} {a : ℕ} (w : Written d at (fill from at ys) d₁ a) where
-    pub part-second : at₀ + length (fill from at₀ all-of) ≤ length d₀ → a + length (fill from a zs) ≤ length d₁
-    part-second l = left-fits zs ws (left-step ys (zs ++ ws) (left-is e L) w) l
-
-    pub part-done : {d₂ : List ℕ} {r : ℕ} → Written d₁ a (fill from a zs) d₂ r → Left d₀ from at₀ all-of d₂ r ws
-    part-done v = left-step zs ws (left-step ys (zs ++ ws) (left-is e L) w) v
-
+-- ------------------------------------------------------------------ down
 -- a row on the way down, and its child
 module _ {code kids span : List ℕ} {u : ℕ} (R : Row code kids span u) where
   pub row-part : Part span u
@@ -138,10 +109,10 @@ module _ {code kids span : List ℕ} {u : ℕ} (R : Row code kids span u) where
     pub child-behind : u < c
     child-behind = among-from span (suc u) (u + getD span u 0) (below span u) (row-open (R .rows) u (R .within) .held) c a
 
-    pub down-parts : downsAt code span x u ≡ (child ∷ []) ++ (ownAt code span x x c ++ downsAt code span x c)
+    pub down-parts : downsAt code span x u ≡ child ∷ (ownAt code span x x c ++ downsAt code span x c)
     down-parts = downs-step (R .rows) u c (R .within) within a x v
 
-    pub way-parts : (u ≡ x → ⊥) → wayAt code span x u ≡ ownAt code span x x u ++ ((child ∷ []) ++ wayAt code span x c)
+    pub way-parts : (u ≡ x → ⊥) → wayAt code span x u ≡ ownAt code span x x u ++ (child ∷ wayAt code span x c)
     way-parts ne = way-step (R .rows) u c (R .within) within a x v ne
 
   -- the way starts at the top, where everything lies below

@@ -4,9 +4,9 @@ use native.Mathlib.Omega.{arith}
 use borrow.Author.Needs.{needs}
 use lib.ListN.{getD}
 use Rattle.branches.specs.Factors.{onwardAt}
-use Rattle.branches.proofs.Joining.{written-length, left-is, left-done}
+use Rattle.branches.proofs.Joining.{written-length, left-is, left-done, left-fits, child-fits, child-step}
 use Rattle.branches.proofs.Chains.{row-few, row-in, row-below, row-one, Off, off-opens, off-end, onward-one, more-start}
-use Rattle.branches.proofs.Chains.{child-fits, label-fits, label-done, chain-fits, five-fits, branch-done, later-branch, later-joint, later-next}
+use Rattle.branches.proofs.Chains.{chain-start, label-done, chain-fits, five-fits, branch-done, later-branch, later-joint, later-next}
 use Prim.Native.Nat.{ℕ, _+_, _*_, _-_, _<_}
 use borrow.Fn.Kinds.{In}
 use borrow.Fn.PlainCycle.{Measures, is, falls, and}
@@ -62,10 +62,10 @@ pub +branch+chain-spec : {M : Type 1} → statement M
     let p = c .before .before in let k = p .before .before .before .before in
     branch-done (k .before .before .before .pre .1 .0) (k .chain .ensures) (record { place = p .put-byte .ensures .0; bytes = p .put-byte .ensures .1 })))
     λ t. chain-lts.spec (sign.Asked, sign.Learnt, label.Asked, label.Learnt, chain-below t, chain.Post, at.Asked, at.Learnt, branch-below t, branch.Post, join.Asked, join.Learnt) (chain-at t) chain.Post chain-Inv-loop chain-μ-loop
-    (λ c κs. let s = c .before .before in let (R, le, f) = s .pre .1 in child-fits _ _ _ (s .args .room .now) le f)
+    (λ c κs. let s = c .before .before in let (R, le, f) = s .pre .1 in child-fits (chain-start _ _ _ (s .args .room .now) le f))
     (λ c κs.
     let p = c .before .before .before in let s = p .before .before .before in
-    let (R, le, f) = s .pre .1 in (row-few R, R .rows .labels (s .args .u) (R .within), label-fits _ _ _ _ le f (p .put-sign .ensures)))
+    let (R, le, f) = s .pre .1 in (row-few R, R .rows .labels (s .args .u) (R .within), left-fits _ _ (child-step (chain-start _ _ _ _ le f) (p .put-sign .ensures))))
     (λ c. search needs) (λ c. search needs) (λ c. search needs)
     (λ c κs.
     let i = c .before in let p = i .before .before .before .before in let p1 = p .before .before .before .before in let s = p1 .before .before .before in

@@ -3,8 +3,8 @@ use Prim.Native.Nat.{_-_}
 use native.Mathlib.Omega.{arith}
 use borrow.Author.Needs.{needs}
 use Rattle.branches.specs.Factors.{branchesAt}
-use Rattle.branches.proofs.Joining.{written-length, left-start, left-done}
-use Rattle.branches.proofs.Chains.{row-few, Off, off-start, off-opens, off-fits, off-next, off-end, own-label, own-rest}
+use Rattle.branches.proofs.Joining.{written-length, left-start, left-done, left-fits, left-step}
+use Rattle.branches.proofs.Chains.{row-few, Off, off-start, off-opens, off-fits, off-next, off-end, own-start}
 use Rattle.branches.proofs.own.Statement.{statement}
 use Rattle.branches.proofs.own.Tie as tie
 
@@ -17,7 +17,7 @@ abbrev μ-loop : tie.MeasureT-loop
 returns : tie.Need-returns Inv-loop μ-loop
 returns c =
     let p = c .before .before .before .before .before in let (R, le, f) = p .before .before .before .pre in
-    left-done (own-rest _ _ _ _ _ _ le f (p .put-label .ensures)) (off-end (c .before .loop .inv) (c .loop-test .left))
+    left-done (left-step _ _ (own-start _ _ _ _ _ _ le f) (p .put-label .ensures)) (off-end (c .before .loop .inv) (c .loop-test .left))
 
 pub own-spec : {M : Type 1} → statement M
 own-spec =
@@ -26,11 +26,11 @@ own-spec =
     Inv-loop μ-loop
     (λ c κs.
     let s = c .before .before in let (R, le, f) = s .pre in
-    (row-few R, R .rows .labels (s .args .u) (R .within), own-label _ _ _ _ _ (s .args .room .now) le f))
+    (row-few R, R .rows .labels (s .args .u) (R .within), left-fits _ _ (own-start _ _ _ _ _ (s .args .room .now) le f)))
     (λ c κs. search needs) (λ c. search needs) (λ c. search needs)
     (λ c.
     let p = c .before .before .before in let (R, le, f) = p .before .before .before .pre in
-    let L = own-rest _ _ _ _ _ _ le f (p .put-label .ensures) in
+    let L = left-step _ _ (own-start _ _ _ _ _ _ le f) (p .put-label .ensures) in
     rw (c .at .ensures .0) (off-start R (left-start (L .reached) (L .fits))))
     (λ c κs. let t = c .before in let l = t .before .loop in (l .inv .row (l .c) (t .loop-test .taken), off-fits (l .inv) (t .loop-test .taken)))
     (λ c κs. let t = c .before .before .before .before in row-few (t .before .loop .inv .row _ (t .loop-test .taken)))
