@@ -23,33 +23,10 @@ fn bytes_of(x: u64) -> u64
     a + 256 * (128 + x / 128 % 128) + x / 16384
 }
 
-// A label code among numbers of 64 bits.
-fn wide(x: u32) -> u64
-    ensures { λ r. ⌜ r ≡ x ⌝ }
-{
-    x as u64
-}
-
-// A mark among numbers of 64 bits.
-fn wide8(x: u8) -> u64
-    ensures { λ r. ⌜ (r ≡ x) × (r < 256) ⌝ }
-{
-    x as u64
-}
-
-// A number of children among numbers of 64 bits.
-fn wide16(x: u16) -> u64
-    ensures { λ r. ⌜ (r ≡ x) × (r < 65536) ⌝ }
-{
-    x as u64
-}
-
 // The key of a row with label code l, mark m and c children: each as its bytes, and a mark is one byte.
 pub fn key_of(l: u32, m: u8, c: u16) -> u64
     requires { ⌜ l < 2097152 ⌝ }
     ensures { λ r. ⌜ r ≡ keyOf l m c ⌝ }
 {
-    let a = bytes_of(wide(l));
-    let b = wide8(m);
-    (a * 256 + b) * 16777216 + bytes_of(wide16(c))
+    (bytes_of(l as u64) * 256 + m as u64) * 16777216 + bytes_of(c as u64)
 }
