@@ -11,9 +11,10 @@ use lib.Dec.{ltb}
 use borrow.Author.Tests.{lt-ltb, le-ltb, ltb-true}
 use Rattle.meaning.specs.Tree.{Forest, bare, tree, size}
 use Rattle.rows.specs.Rows.{noRow}
+use Rattle.theory.proofs.Canon.{height}
 use Rattle.order.specs.declared.sorting.Order.{Order}
 use Rattle.order.specs.declared.sorting.Order.the-variants.{Before, Same, After}
-use Rattle.order.specs.Links.{slotOf, Known, forestFrom, forestAt, Linked, height, Finite, thenBy, cmpN, cmpF, comparedAt, upTo, goesFirst, spotOf}
+use Rattle.order.specs.Links.{slotOf, Known, forestFrom, forestAt, Linked, Finite, thenBy, cmpN, cmpF, comparedAt, upTo, goesFirst, spotOf}
 use Rattle.order.proofs.Comparing.{cmp-lt, cmp-gt, cmp-eq}
 
 -- ------------------------------------------------------------------ slots
@@ -89,7 +90,6 @@ opens {n} {fs} {ns} {c} w l = go (forestAt n fs ns c) refl (w .holds) (w .small)
         }
 
 height-tree : (c : ℕ) (k r F : Forest ℕ) → F ≡ tree c k r → (height k < height F) × (height r ≤ height F)
-unfolding height
 height-tree c k r F e = rw e (omega arith, omega arith)
 
 -- later brothers are fewer, and lie no deeper

@@ -5,7 +5,7 @@ use mathlib.Core.Path.{_≡_}
 use mathlib.Core.Logic.{_⊎_}
 use mathlib.Core.List.{List}
 use mathlib.Core.Bool.{Bool, true, false, cond}
-use Prim.Native.Nat.{ℕ, zero, suc, _<_, _≤_, max}
+use Prim.Native.Nat.{ℕ, zero, suc, _<_, _≤_}
 use lib.ListN.{length, getD}
 use lib.Dec.{ltb}
 use Rattle.meaning.specs.Limits.{mostNodes}
@@ -35,11 +35,6 @@ forestAt n fs ns c = forestFrom n n fs ns c
 abbrev pub Linked : ℕ → List ℕ → List ℕ → ℕ → Forest ℕ → Type 0
 Linked n fs ns c bare = n ≤ c
 Linked n fs ns c (tree i k r) = (c ≡ i) × (i < n) × Linked n fs ns (getD fs i 0) k × Linked n fs ns (getD ns i 0) r
-
--- the number of levels of a forest
-unfoldable pub height : {A : Type 0} → Forest A → ℕ
-height bare = 0
-height (tree a k r) = max (suc (height k)) (height r)
 
 -- row j is one of the forest's
 abbrev pub In : ℕ → Forest ℕ → Type 0

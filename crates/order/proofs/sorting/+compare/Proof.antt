@@ -1,6 +1,7 @@
 use borrow.Author.Needs.{needs}
 use Rattle.meaning.specs.Tree.{size}
-use Rattle.order.specs.Links.{forestAt, height}
+use Rattle.theory.proofs.Canon.{height}
+use Rattle.order.specs.Links.{forestAt}
 use Rattle.order.proofs.Links.{Pending, pending, none-none, none-some, some-none, below-pending, by-less, by-more, by-before, by-after, pending-next, goes-along}
 use Prim.Native.Nat.{ℕ, _<_}
 use borrow.Fn.Kinds.{In}
