@@ -1,5 +1,5 @@
-// Many words in one run: standard input has one word a line, in hex; what is no hex digit counts for nothing. Each line is written again, and
-// below it what the program writes for its word. A line that starts with `#` is a comment: it is written again and nothing more.
+// Many words in one run: standard input has one word a line, in hex, with blanks between its bytes. Each line is written again, and below it what
+// the program writes for its word, or that it is no word. A line that starts with `#` is a comment: it is written again and nothing more.
 use libc::STDIN_FILENO;
 use libc::STDOUT_FILENO;
 use report::LONGEST_TEXT;
@@ -20,9 +20,37 @@ fn value(c: u8) -> u8
 {
     match c {
         b'0'..=b'9' => c - b'0',
+        b'a'..=b'f' => c - b'a' + 10,
         b'A'..=b'F' => c - b'A' + 10,
         _ => NO_DIGIT,
     }
+}
+
+// What may stand between two bytes: a blank, and the end of the line.
+fn is_between(c: u8) -> bool {
+    match c {
+        b' ' | b'\n' => true,
+        _ => false,
+    }
+}
+
+// Whether the line is a word: the two digits of each byte stand together, and nothing but blanks between the bytes.
+fn is_word(line: &[u8]) -> bool {
+    let mut half = false;
+    for at in 0..line.len() {
+        let c = line[at];
+        if value(c) < NO_DIGIT {
+            half = !half;
+        } else {
+            if half {
+                return false;
+            }
+            if !is_between(c) {
+                return false;
+            }
+        }
+    }
+    !half
 }
 
 // The next digit goes into its byte of the word, behind the one that is there; how many digits there are then.
@@ -76,6 +104,10 @@ fn write_text(word: &[u8]) {
 }
 
 fn report_line(line: &[u8]) {
+    if !is_word(line) {
+        io::write_all(STDOUT_FILENO, b"no word\n");
+        return;
+    }
     let mut word = empty_word();
     let n = bytes_of(line, &mut word);
     write_text(&word[..n]);
