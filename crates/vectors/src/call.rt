@@ -1,5 +1,6 @@
 // One call and its comparison with what is told of it: the result, and every byte of the lent buffer and behind it.
 use crate::input::next_bytes;
+use crate::input::next_length;
 use crate::input::next_list;
 use crate::input::next_long;
 use crate::input::next_number;
@@ -56,6 +57,13 @@ fn written(form: Form, word: &[u8], buffer: &mut [u8], bytes: usize) -> u64 {
     }
 }
 
+// Whether the form of the word, into a room of so many bytes, has this result and leaves these bytes.
+fn writes(form: Form, word: &[u8], room: usize, told: u64, bytes: &[u8]) -> bool {
+    let mut buffer = filled_room();
+    let result = written(form, word, &mut buffer, room);
+    result == told && check::same(&buffer, bytes)
+}
+
 // How many bytes of an answer are told: a result is the answer's length, or a refusal, which has none.
 fn answer_length(result: u64) -> usize {
     if result < 4294967296 {
@@ -66,14 +74,12 @@ fn answer_length(result: u64) -> usize {
 }
 
 // Whether one form of the word comes out as told: "u32 room length, u64 result, the answer's bytes if it is no refusal".
-pub fn run_form(form: Form, word: &[u8]) -> bool {
-    let mut buffer = filled_room();
-    let room = next_number() as usize;
-    let result = written(form, word, &mut buffer, room);
-    let told = next_long();
+pub fn run_form(left: &mut u64, form: Form, word: &[u8]) -> bool {
+    let room = next_length(left, ROOM);
+    let told = next_long(left);
     let mut bytes = filled_room();
-    next_bytes(&mut bytes, answer_length(told));
-    result == told && check::same(&buffer, &bytes)
+    next_bytes(left, &mut bytes, answer_length(told));
+    writes(form, word, room, told, &bytes)
 }
 
 // Times the prime of FNV-1a, modulo 2^32.
@@ -91,21 +97,32 @@ fn checksum(buffer: &[u8]) -> u32 {
 }
 
 // The pair question: "u64 m, u64 n, u32 workspace length".
-fn told(word: &[u8], parents: &[u32], labels: &[u32], buffer: &mut [u8]) -> u64 {
-    let m = next_long();
-    let n = next_long();
-    let lent = within(buffer, next_number() as usize);
+fn asked(left: &mut u64, word: &[u8], parents: &[u32], labels: &[u32], buffer: &mut [u8]) -> u64 {
+    let m = next_long(left);
+    let n = next_long(left);
+    let lent = within(buffer, next_length(left, WORKSPACE));
     pathplus::pathplus_selects(word, parents, labels, m, n, &mut buffer[..lent])
 }
 
-// Whether a question is answered as told, and leaves the bytes told: "parents; labels;" the question, "u64 result, u32 checksum".
-pub fn run_question(word: &[u8]) -> bool {
-    let mut parents = no_rows();
-    let p = next_list(&mut parents);
-    let mut labels = no_rows();
-    let l = next_list(&mut labels);
+// Whether the result and the bytes that are left are as told: "u64 result, u32 checksum".
+fn is_told(left: &mut u64, result: u64, buffer: &[u8]) -> bool {
+    let told = next_long(left);
+    let sum = next_number(left);
+    result == told && checksum(buffer) == sum
+}
+
+// Whether the question for a table is answered as told.
+fn is_answered(left: &mut u64, word: &[u8], parents: &[u32], labels: &[u32]) -> bool {
     let mut buffer = filled_workspace();
-    let result = told(word, &parents[..p], &labels[..l], &mut buffer);
-    let sum = checksum(&buffer);
-    result == next_long() && sum == next_number()
+    let result = asked(left, word, parents, labels, &mut buffer);
+    is_told(left, result, &buffer)
+}
+
+// Whether a question comes out as told: "parents; labels;" and the question for them.
+pub fn run_question(left: &mut u64, word: &[u8]) -> bool {
+    let mut parents = no_rows();
+    let p = next_list(left, &mut parents);
+    let mut labels = no_rows();
+    let l = next_list(left, &mut labels);
+    is_answered(left, word, &parents[..p], &labels[..l])
 }

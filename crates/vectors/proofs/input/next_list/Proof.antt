@@ -9,10 +9,10 @@ use Rattle.vectors.proofs.input.next_list.Statement.{statement}
 use Rattle.vectors.proofs.input.next_list.Tie as tie
 
 abbrev Inv-loop : tie.InvT-loop
-Inv-loop list₀ rows i₀ list i = (i ≤ rows) × (rows ≤ length list₀) × (length list ≡ length list₀)
+Inv-loop left₀ list₀ rows i₀ left list i = (i ≤ rows) × (rows ≤ length list₀) × (length list ≡ length list₀)
 
 abbrev μ-loop : tie.MeasureT-loop
-μ-loop list₀ rows i₀ list i = rows - i
+μ-loop left₀ list₀ rows i₀ left list i = rows - i
 
 returns : tie.Need-returns Inv-loop μ-loop
 returns c = counts _ _ (omega arith)
@@ -23,8 +23,6 @@ next-list-spec =
     (tie.spec
     Inv-loop
     μ-loop
-    (λ c κs. search needs)
-    (λ c. search needs)
     (λ c κs. search needs)
     (λ c. search needs)
     (λ c κs. search needs)
