@@ -4,19 +4,19 @@ use libc::STDIN_FILENO;
 ghost use Prim.Native.Nat.{_≤_};
 ghost use Rattle.io.specs.Counts.{Counts};
 
-// What is left of a case: below 2^32 so many bytes that are to come; from there on what is wrong with the case, and that stays.
+// What is left of a case: a number of bytes, below 2^32, or what is wrong with the case, which stays.
 pub const ENDS_ELSEWHERE: u64 = 4294967296;
 
 pub const CUT_OFF: u64 = 4294967297;
 
 pub const TOO_LONG: u64 = 4294967298;
 
-// What is left behind so many bytes, of which so many are lent a place, and so many came.
-fn rest(left: u64, asked: usize, lent: usize, came: usize) -> u64 {
+// What is left when so many bytes were asked for, so many could be held, and so many came.
+fn rest(left: u64, asked: usize, held: usize, came: usize) -> u64 {
     if ENDS_ELSEWHERE <= left {
         return left;
     }
-    if lent < asked {
+    if held < asked {
         return TOO_LONG;
     }
     if came < asked {

@@ -1,5 +1,5 @@
 // Goes through a corpus of the second implementation on standard input and makes every call in it, as C makes it. A call that differs has a
-// line. A case that is damaged has one too, and is the last; the last line counts the cases and the calls that were gone through.
+// line. So has a case that is damaged, and it is the last. The last line counts the cases and the calls that were gone through.
 mod call;
 mod input;
 
@@ -18,7 +18,7 @@ ghost use Prim.Native.Nat.{_≤_};
 // The eight bytes `GULPHCO1`, read as a number.
 const CORPUS: u64 = 0x314F4348504C5547;
 
-// The line of a call that differs, which is told by its place in the case, from 1. Where the case is damaged, that is told instead.
+// The line of a call that differs: its case, and its place there, from 1. Where the case is damaged, that is told instead.
 fn judge(case: u32, call: u64, same: bool, left: u64) {
     if same {
         return;
@@ -46,7 +46,7 @@ fn run_calls(case: u32, left: &mut u64, word: &[u8]) -> u64
     4
 }
 
-// What is wrong with a case.
+// What is wrong with a case: the corpus ends in it, or a length in it is above what the buffer holds, or it has another length than it says.
 fn write_damage(left: u64) {
     if left == CUT_OFF {
         io::write_all(STDOUT_FILENO, b" is cut off\n");
@@ -59,7 +59,7 @@ fn write_damage(left: u64) {
     io::write_all(STDOUT_FILENO, b" ends elsewhere\n");
 }
 
-// How many calls a case has of which this is left: so many; or none, where it is damaged.
+// How many calls a case counts for, where this is left of it: so many, or none if it is damaged.
 fn finish(case: u32, left: u64, calls: u64) -> u64
     ensures { λ r. ⌜ r ≤ calls ⌝ }
 {
@@ -75,7 +75,7 @@ fn finish(case: u32, left: u64, calls: u64) -> u64
 fn run_case(case: u32) -> u64
     ensures { λ r. ⌜ r ≤ 4 ⌝ }
 {
-    let mut left: u64 = 4;
+    let mut left: u64 = 4; // Its length. Where that is cut off, so is what follows
     left = next_number(&mut left) as u64;
     let length = next_number(&mut left) as usize;
     let mut buffer = io::large_buffer();
