@@ -1,7 +1,6 @@
 -- s lies at or below the row, or d decides.
-use mathlib.Core.Path.{sym, _∙_}
 use borrow.Author.Needs.{needs}
-use Rattle.normal.proofs.Counting.{on-first, on-second}
+use Rattle.normal.specs.Weights.{onWay}
 use Rattle.normal.proofs.weight.on_way.Statement.{statement}
 use Rattle.normal.proofs.weight.on_way.Tie as tie
 
@@ -9,5 +8,5 @@ pub on-way-spec : {M : Type 1} → statement M
 on-way-spec =
     tie.close
     (tie.spec
-    (λ c κs. search needs) (λ c. sym (on-first _ _ _ _ (sym (c .before .holds .ensures) ∙ c .if1 .taken)))
-    (λ c κs. search needs) (λ c. c .holds2 .ensures ∙ sym (on-second _ _ _ _ (sym (c .before .before .holds .ensures) ∙ c .before .if1 .left))))
+    (λ c κs. search needs) (λ c. unfold onWay in rw (← c .before .holds .ensures, c .if1 .taken)) (λ c κs. search needs)
+    (λ c. unfold onWay in rw (← c .before .before .holds .ensures, c .before .if1 .left, c .holds2 .ensures)))
