@@ -13,7 +13,7 @@ use Rattle.meaning.specs.Expression.{Expr, empty, self, child, parent, label, c
 use Rattle.meaning.specs.Number.{numF, num}
 use Rattle.meaning.specs.Normal.{joined, all, wordOf}
 use Rattle.groups.specs.Put.{put, Written}
-use Rattle.groups.proofs.Put.{put-nil, put-append}
+use Rattle.groups.proofs.Put.{put-append}
 pub use Rattle.groups.proofs.Put.{written-nil, written-is, written-then, written-length, written-reached}
 use Rattle.branches.specs.Joining.{joint, run, fill, factor}
 

@@ -6,7 +6,7 @@ use Prim.Native.Nat.{ℕ, zero, suc, _+_, _-_, _≤_, _<_}
 use native.Mathlib.Omega.{arith}
 use lib.ListN.{length, getD}
 use lib.Dec.{ltb}
-use borrow.Author.Tests.{lt-ltb, eq-eqb, ne-eqb}
+use borrow.Author.Tests.{lt-ltb, ne-eqb}
 use Rattle.meaning.specs.Number.{num}
 use Rattle.meaning.specs.Tree.{Forest, bare, tree, Tag, size}
 use Rattle.meaning.specs.Normal.{all, eitherIn, bothIn, someTree, factors, normal, wordOf}
