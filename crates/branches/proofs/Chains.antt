@@ -32,11 +32,7 @@ chains-same f g h bare = refl
 chains-same f g h (tree i k r) = rw (h i, chains-same f g h k, chains-same f g h r)
 
 -- ------------------------------------------------------------------ one row
--- the label: none, or code L + 1 as the sign 9 + L
-pub label-none : (code : List ℕ) (u from at : ℕ) → getD code u 0 ≡ 0 → fill from at (labelAt code u) ≡ []
-unfolding labelAt
-label-none code u from at e = rw e (fill-nil from at)
-
+-- a label: code L + 1 as the sign 9 + L
 pub label-some : (code : List ℕ) (u from at x : ℕ) → x ≡ getD code u 0 → (x ≡ 0 → ⊥) → fill from at (labelAt code u) ≡ factor from at (num (8 + x))
 unfolding labelAt
 label-some code u from at zero e z = absurd (z refl)
@@ -52,19 +48,9 @@ row-open {code} {kids} {span} {u} R = row-opens span (R .n) (R .rows .laid) u (R
 pub row-width : {code kids span : List ℕ} {u : ℕ} (R : Row code kids span u) → getD kids u 0 ≡ width (below span u)
 row-width {code} {kids} {span} {u} R = row-kids code (R .mark) kids span (R .up) (R .n) (R .rows) u (R .within) .0
 
--- the rows of row u's part are in the tables
-pub row-stop : {code kids span : List ℕ} {u : ℕ} → Row code kids span u → u + getD span u 0 ≤ mostNodes
-row-stop R = omega (arith, row-open R .inside, R .rows .few)
-
 -- a later row of it
-pub row-in : {code kids span : List ℕ} {u : ℕ} → Row code kids span u → (c : ℕ) → c < u + getD span u 0 → Row code kids span c
+row-in : {code kids span : List ℕ} {u : ℕ} → Row code kids span u → (c : ℕ) → c < u + getD span u 0 → Row code kids span c
 row-in R c l = let o = row-open R .inside in record { mark = R .mark; up = R .up; n = R .n; rows = R .rows; within = omega arith }
-
-module _ (code span : List ℕ) (u : ℕ) where
-  -- "child, the node's label, and then"
-  chain-parts : chainAt code span u ≡ child ∷ (labelAt code u ++ onwardAt code span u)
-  unfolding chainAt labelAt
-  chain-parts = ap (λ (l : List Expr). child ∷ l) (labelled-append (labOf (getD code u 0)) (onwardAt code span u))
 
 -- ------------------------------------------------------------------ its children
 module _ (code span : List ℕ) (x y : ℕ) where
@@ -176,22 +162,21 @@ module _ {code kids span : List ℕ} {u : ℕ} (R : Row code kids span u) where
       → Off code span u u kids (u + 1) (u + getD span u 0) d from at (onwardAt code span u) d at
   more-start l f e = off-start R (left-is (onward-more e) (left-start l f))
 
-  -- the rows below row u
-  pub row-below : (c : ℕ) → u < c → c < u + getD span u 0 → (1 ≤ getD span c 0) × (c + getD span c 0 ≤ u + getD span u 0)
-  row-below c l m = let o = holds-opens span (suc u) (u + getD span u 0) (below span u) (row-open R .held) c l m in (o .some, o .inside)
-
-  pub row-one : getD kids u 0 ≡ 1 → u + 1 < u + getD span u 0
-  row-one e = go (below span u) (row-open R .held) (sym (row-width R) ∙ e)
+  -- that child's row
+  pub row-next : getD kids u 0 ≡ 1 → Row code kids span (u + 1) × (u + 1 + getD span (u + 1) 0 ≤ u + getD span u 0)
+  row-next e = let z : u + 1 ≡ suc u = omega arith in rw z (go (below span u) (row-open R .held) (sym (row-width R) ∙ e))
     where
-      go : (F : Forest ℕ) → Holds span (suc u) (u + getD span u 0) F → width F ≡ 1 → u + 1 < u + getD span u 0
+      go : (F : Forest ℕ) → Holds span (suc u) (u + getD span u 0) F → width F ≡ 1
+          → Row code kids span (suc u) × (suc u + getD span (suc u) 0 ≤ u + getD span u 0)
       go bare h w = absurd (omega arith)
-      go (tree i k r) h w = let s = size-holds span (suc u) (u + getD span u 0) (tree i k r) h in omega arith
+      go (tree i k r) h w = let o = holds-first span (suc u) (u + getD span u 0) i k r h .1 in (row-in R (suc u) (omega (arith, o .some, o .inside)), o .inside)
 
 -- ------------------------------------------------------------------ writing a chain
 -- child, the label, and then what goes on below
 module _ (code span : List ℕ) (u : ℕ) (d : List ℕ) {from at : ℕ} (le : from ≤ at) (l : at + length (fill from at (chainAt code span u)) ≤ length d) where
   pub chain-start : Left d from at (chainAt code span u) d at (child ∷ (labelAt code u ++ onwardAt code span u))
-  chain-start = left-is (chain-parts code span u) (left-start le l)
+  unfolding chainAt labelAt
+  chain-start = left-is (ap (λ (l : List Expr). child ∷ l) (labelled-append (labOf (getD code u 0)) (onwardAt code span u))) (left-start le l)
 
   pub label-done : {d₁ d₂ : List ℕ} {a b : ℕ} → Written d at (factor from at (num 2)) d₁ a → Written d₁ a (fill from a (labelAt code u)) d₂ b
       → Left d from at (chainAt code span u) d₂ b (onwardAt code span u)
@@ -252,19 +237,6 @@ module _ {code kids span : List ℕ} {u c e : ℕ} {d₀ : List ℕ} {from at₀
 
     pub later-next : {d₂ : List ℕ} {r : ℕ} → Written d₁ a (joint (ltb from at)) d₂ r → Off code span u u kids (c + getD span c 0) e d₀ from at₀ xs d₂ r
     later-next w = off-next O m (off-done code span u u c from at before before d v w)
-
-module _ (code span : List ℕ) (x y c from at : ℕ) where
-  pub off-first-way : covers span c x ≡ true → fill from at (offAt code span x y c) ≡ []
-  unfolding offAt
-  off-first-way e = rw e (fill-nil from at)
-
-  pub off-second-way : covers span c y ≡ true → fill from at (offAt code span x y c) ≡ []
-  unfolding offAt
-  off-second-way e = rw e (go (covers span c x))
-    where
-      go : (b : Bool) → fill from at (cond (b || true) [] (branch (chainAt code span c) ∷ [])) ≡ []
-      go true = fill-nil from at
-      go false = fill-nil from at
 
 -- ------------------------------------------------------------------ a node's own factors
 -- the label, and then the branches off the ways

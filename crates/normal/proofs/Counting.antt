@@ -6,7 +6,7 @@ use Prim.Native.Nat.{ℕ, zero, suc, _+_, _-_, _≤_, _<_}
 use native.Mathlib.Omega.{arith}
 use lib.ListN.{length, getD}
 use lib.Dec.{ltb}
-use borrow.Author.Tests.{lt-ltb, eq-eqb, ne-eqb}
+use borrow.Author.Tests.{lt-ltb, ne-eqb}
 use Rattle.meaning.specs.Number.{num}
 use Rattle.meaning.specs.Tree.{Forest, bare, tree, Tag, size}
 use Rattle.meaning.specs.Normal.{all, eitherIn, bothIn, someTree, factors, normal, wordOf}
@@ -31,53 +31,10 @@ several-width (tree b j bare) = refl
 several-width (tree b j (tree c i r)) = sym (lt-ltb 1 (suc (suc (width r))) (omega arith))
 
 -- ------------------------------------------------------------------ one row
-pub label-none : (x : ℕ) → x ≡ 0 → labWeight (labOf x) ≡ 0
-unfolding labWeight
-label-none x e = rw e
-
 pub label-some : (x : ℕ) → (x ≡ 0 → ⊥) → labWeight (labOf x) ≡ length (num (8 + x)) + 1
 unfolding labWeight
 label-some zero ne = absurd (ne refl)
 label-some (suc l) ne = let z : 8 + suc l ≡ 9 + l = omega arith in rw z (omega arith)
-
-pub on-first : (span : List ℕ) (s d c : ℕ) → covers span c s ≡ true → onWay span s d c ≡ true
-unfolding onWay
-on-first span s d c e = rw e
-
-pub on-second : (span : List ℕ) (s d c : ℕ) → covers span c s ≡ false → onWay span s d c ≡ covers span c d
-unfolding onWay
-on-second span s d c e = rw e
-
-pub branching-way : (kids span : List ℕ) (s d p : ℕ) → onWay span s d p ≡ true → branching kids span s d p ≡ true
-unfolding branching
-branching-way kids span s d p e = rw e
-
-pub branching-kids : (kids span : List ℕ) (s d p : ℕ) → onWay span s d p ≡ false → branching kids span s d p ≡ ltb 1 (getD kids p 0)
-unfolding branching
-branching-kids kids span s d p e = rw e
-
-module _ (code kids span up : List ℕ) (s d u : ℕ) where
-  abbrev label-weight : ℕ
-  label-weight = labWeight (labOf (getD code u 0))
-
-  pub row-top : u ≡ 0 → rowWeight code kids span up s d u ≡ label-weight
-  unfolding rowWeight
-  row-top e = rw (eq-eqb u 0 e) (omega arith)
-
-  module _ (ne : u ≡ 0 → ⊥) where
-    pub row-way : onWay span s d u ≡ true → rowWeight code kids span up s d u ≡ label-weight + 2
-    unfolding rowWeight
-    row-way w = rw (ne-eqb u 0 ne, w)
-
-    -- off the ways, with the parent p
-    module _ (w : onWay span s d u ≡ false) (p : ℕ) (e : p ≡ getD up u 0) where
-      pub row-branch : branching kids span s d p ≡ true → rowWeight code kids span up s d u ≡ label-weight + 3
-      unfolding rowWeight
-      row-branch b = rw (ne-eqb u 0 ne, w, ← e, b)
-
-      pub row-chain : branching kids span s d p ≡ false → rowWeight code kids span up s d u ≡ label-weight + 2
-      unfolding rowWeight
-      row-chain b = rw (ne-eqb u 0 ne, w, ← e, b)
 
 -- ------------------------------------------------------------------ the rows of a forest
 module _ (code kids span up : List ℕ) (s d : ℕ) where

@@ -9,6 +9,7 @@ use Rattle.rows.specs.Rows.{tagAt, Borne, FirstRow, Single, shape, mapT, treeRo
 use Rattle.rows.proofs.Rows.{size-holds}
 use Rattle.rows.proofs.Marks.{single-row, single-borne, single-first}
 use Rattle.branches.specs.Factors.{tagged}
+use Rattle.ways.specs.Ways.{Pair}
 use Rattle.normal.specs.Forms.{QueryRows}
 
 mapT-same : (f g : ℕ → Tag) (span : List ℕ) (u e : ℕ) (F : Forest ℕ) → Holds span u e F → ((i : ℕ) → i < e → f i ≡ g i) → mapT f F ≡ mapT g F
@@ -44,8 +45,11 @@ module _ {code mark kids span up : List ℕ} {n : ℕ} (Q : QueryRows code mark 
   pub src-in : {s : ℕ} → FirstRow mark 0 s → s < n
   src-in f = omega (arith, single-first mark 0 src-row f, src-row .inside)
 
-  pub dst-in : {d : ℕ} → FirstRow mark 1 d → d < n
+  dst-in : {d : ℕ} → FirstRow mark 1 d → d < n
   dst-in f = omega (arith, single-first mark 1 dst-row f, dst-row .inside)
+
+  pub pair-rows : {s d : ℕ} → FirstRow mark 0 s → FirstRow mark 1 d → Pair span up s d
+  pair-rows fs fd = record { code = code; mark = mark; kids = kids; n = n; rows = Q .rows; s-in = src-in fs; d-in = dst-in fd }
 
   -- the tree by the rows of s and d
   pub tagged-rows : {s d : ℕ} → FirstRow mark 0 s → FirstRow mark 1 d → treeRows code mark span n ≡ mapT (tagged code s d) (shape span n)

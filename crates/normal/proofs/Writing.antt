@@ -1,67 +1,31 @@
--- Writing the factors: what fits, and what stands in the room after each of the four parts.
-use mathlib.Core.Path.{_≡_, refl}
+-- Writing the factors: what is left of the four parts when some of them stand in the room.
 use mathlib.Core.List.{List, [], _++_}
 use Prim.Native.Nat.{ℕ, _+_, _≤_}
 use native.Mathlib.Omega.{arith}
 use lib.ListN.{length}
-use Rattle.meaning.specs.Expression.{Expr}
 use Rattle.meaning.specs.Normal.{aboveFactor}
 use Rattle.groups.specs.Put.{Written}
 use Rattle.branches.specs.Joining.{fill}
 use Rattle.branches.specs.Factors.{ownAt}
-use Rattle.branches.proofs.Joining.{written-reached, first-fits, rest-fits, rest-done}
+use Rattle.branches.proofs.Joining.{Left, left-start, left-step}
 use Rattle.ways.specs.Ways.{upsAt, downsAt, wayAt}
 use Rattle.normal.specs.Forms.{formAt}
 
-module _ (code span : List ℕ) (s d t : ℕ) where
-  abbrev U : List Expr
-  U = upsAt code span s t
-
-  abbrev A : List Expr
-  A = aboveFactor (wayAt code span t 0) []
-
-  abbrev O : List Expr
-  O = ownAt code span s d t
-
-  abbrev D : List Expr
-  D = downsAt code span d t
-
-  form-parts : formAt code span s d t ≡ U ++ (A ++ (O ++ D))
+module _ (code span : List ℕ) (s d t : ℕ) (d₀ : List ℕ) {from : ℕ} (l : from + length (fill from from (formAt code span s d t)) ≤ length d₀) where
+  pub form-start : Left d₀ from from (formAt code span s d t) d₀ from
+      (upsAt code span s t ++ (aboveFactor (wayAt code span t 0) [] ++ (ownAt code span s d t ++ downsAt code span d t)))
   unfolding formAt
-  form-parts = refl
+  form-start = left-start (omega arith) l
 
-  module _ (from : ℕ) (d₀ : List ℕ) (l : from + length (fill from from (formAt code span s d t)) ≤ length d₀) where
-    pub ups-fits : from + length (fill from from U) ≤ length d₀
-    ups-fits = first-fits U (A ++ (O ++ D)) form-parts d₀ (omega arith) l
+  module _ {d₁ : List ℕ} {a : ℕ} (u : Written d₀ from (fill from from (upsAt code span s t)) d₁ a) where
+    pub risen : Left d₀ from from (formAt code span s d t) d₁ a
+        (aboveFactor (wayAt code span t 0) [] ++ (ownAt code span s d t ++ downsAt code span d t))
+    risen = left-step _ _ form-start u
 
-    module _ {d₁ : List ℕ} {a : ℕ} (u : Written d₀ from (fill from from U) d₁ a) where
-      risen : from ≤ a
-      risen = written-reached (omega arith) u
+    module _ {d₂ : List ℕ} {b : ℕ} (v : Written d₁ a (fill from a (aboveFactor (wayAt code span t 0) [])) d₂ b) where
+      pub met : Left d₀ from from (formAt code span s d t) d₂ b (ownAt code span s d t ++ downsAt code span d t)
+      met = left-step _ _ risen v
 
-      from-above : a + length (fill from a (A ++ (O ++ D))) ≤ length d₁
-      from-above = rest-fits U (A ++ (O ++ D)) form-parts d₀ (omega arith) u l
-
-      pub above-fits : a + length (fill from a A) ≤ length d₁
-      above-fits = first-fits A (O ++ D) refl d₁ risen from-above
-
-      module _ {d₂ : List ℕ} {b : ℕ} (v : Written d₁ a (fill from a A) d₂ b) where
-        pub met : from ≤ b
-        met = written-reached risen v
-
-        from-own : b + length (fill from b (O ++ D)) ≤ length d₂
-        from-own = rest-fits A (O ++ D) refl d₁ risen v from-above
-
-        pub own-fits : b + length (fill from b O) ≤ length d₂
-        own-fits = first-fits O D refl d₂ met from-own
-
-        module _ {d₃ : List ℕ} {c : ℕ} (w : Written d₂ b (fill from b O) d₃ c) where
-          pub owned : from ≤ c
-          owned = written-reached met w
-
-          pub downs-fits : c + length (fill from c D) ≤ length d₃
-          downs-fits = rest-fits O D refl d₂ met w from-own
-
-          pub form-done : {d₄ : List ℕ} {r : ℕ} → Written d₃ c (fill from c D) d₄ r → Written d₀ from (fill from from (formAt code span s d t)) d₄ r
-          form-done z =
-              rest-done U (A ++ (O ++ D)) form-parts d₀ (omega arith) u
-              (rest-done A (O ++ D) refl d₁ risen v (rest-done O D refl d₂ met w z))
+      pub owned : {d₃ : List ℕ} {c : ℕ} → Written d₂ b (fill from b (ownAt code span s d t)) d₃ c
+          → Left d₀ from from (formAt code span s d t) d₃ c (downsAt code span d t)
+      owned w = left-step _ _ met w

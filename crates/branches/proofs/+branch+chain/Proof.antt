@@ -5,7 +5,7 @@ use borrow.Author.Needs.{needs}
 use lib.ListN.{getD}
 use Rattle.branches.specs.Factors.{onwardAt}
 use Rattle.branches.proofs.Joining.{written-length, left-is, left-done, left-fits, child-fits, child-step}
-use Rattle.branches.proofs.Chains.{row-few, row-in, row-below, row-one, Off, off-opens, off-end, onward-one, more-start}
+use Rattle.branches.proofs.Chains.{row-few, row-next, Off, off-opens, off-end, onward-one, more-start}
 use Rattle.branches.proofs.Chains.{chain-start, label-done, chain-fits, five-fits, branch-done, later-branch, later-joint, later-next}
 use Prim.Native.Nat.{ℕ, _+_, _*_, _-_, _<_}
 use borrow.Fn.Kinds.{In}
@@ -70,9 +70,9 @@ pub +branch+chain-spec : {M : Type 1} → statement M
     (λ c κs.
     let i = c .before in let p = i .before .before .before .before in let p1 = p .before .before .before .before in let s = p1 .before .before .before in
     let (R, le, f) = s .pre .1 in
-    let m = row-one R (i .if1 .taken) in
+    let (N, b) = row-next R (i .if1 .taken) in
     let L = left-is (onward-one R (i .if1 .taken)) (label-done _ _ _ _ le f (p1 .put-sign .ensures) (p .put-label .ensures)) in
-    (omega (arith, s .pre .0, row-below R (s .args .u + 1) (omega arith) m .1), (row-in R (s .args .u + 1) m, L .reached, L .fits)))
+    (omega (arith, s .pre .0), (N, L .reached, L .fits)))
     (λ c. search needs)
     (λ c.
     let k = c .before .before in let i = k .before .before in let p = i .before .before .before .before in let p1 = p .before .before .before .before in

@@ -2,8 +2,9 @@
 use mathlib.Core.Path.{sym, ap, refl}
 use native.Mathlib.Omega.{arith}
 use lib.ListN.{length}
-use Rattle.branches.proofs.Joining.{written-nil, written-is}
-use Rattle.branches.proofs.Chains.{label-none, label-some}
+use Rattle.branches.specs.Factors.{labelAt}
+use Rattle.branches.proofs.Joining.{fill-nil, written-nil, written-is}
+use Rattle.branches.proofs.Chains.{label-some}
 use borrow.Author.Needs.{needs}
 use Rattle.branches.proofs.put_label.Statement.{statement}
 use Rattle.branches.proofs.put_label.Tie as tie
@@ -12,10 +13,7 @@ pub put-label-spec : {M : Type 1} → statement M
 put-label-spec =
     tie.close
     (tie.spec
-    (λ c. search needs)
-    (λ c. search needs)
-    (λ c. written-is (sym (label-none _ _ _ _ (c .if1 .taken))) (written-nil _ _))
-    (λ c. search needs)
+    (λ c. search needs) (λ c. search needs) (λ c. unfold labelAt in rw (c .if1 .taken, fill-nil) (written-nil _ _)) (λ c. search needs)
     (λ c κs.
     let s = c .before .before .before .before in
     let e = label-some (s .args .code .now) (s .args .u) (s .args .from) (s .args .at) _ refl (c .before .if1 .left) in

@@ -1,7 +1,8 @@
 -- Row c is on the way to x, or to y, or it is off both and its branch is written and joined.
 use mathlib.Core.Path.{sym, _∙_}
-use Rattle.branches.proofs.Joining.{written-nil, written-is}
-use Rattle.branches.proofs.Chains.{row-few, off-first-way, off-second-way, branch-fits, joint-fits, off-done}
+use Rattle.branches.specs.Factors.{offAt}
+use Rattle.branches.proofs.Joining.{fill-nil, written-nil}
+use Rattle.branches.proofs.Chains.{branch-fits, joint-fits, off-done}
 use borrow.Author.Needs.{needs}
 use Rattle.branches.proofs.put_off.Statement.{statement}
 use Rattle.branches.proofs.put_off.Tie as tie
@@ -10,10 +11,12 @@ pub put-off-spec : {M : Type 1} → statement M
 put-off-spec =
     tie.close
     (tie.spec
-    (λ c κs. row-few (c .before .pre .0))
-    (λ c. written-is (sym (off-first-way _ _ _ _ _ _ _ (sym (c .before .holds .ensures) ∙ c .if1 .taken))) (written-nil _ _))
-    (λ c κs. row-few (c .before .before .before .pre .0))
-    (λ c. written-is (sym (off-second-way _ _ _ _ _ _ _ (sym (c .before .holds2 .ensures) ∙ c .if2 .taken))) (written-nil _ _))
+    (λ c κs. search needs)
+    (λ c. unfold offAt in rw (← c .before .holds .ensures, c .if1 .taken, fill-nil) (written-nil _ _))
+    (λ c κs. search needs)
+    (λ c.
+    let i = c .before .before in
+    unfold offAt in rw (← i .before .holds .ensures, i .if1 .left, ← c .before .holds2 .ensures, c .if2 .taken, fill-nil) (written-nil _ _))
     (λ c κs.
     let h = c .before .before in let h1 = h .before .before in let s = h1 .before .before in
     let ex = sym (h1 .holds .ensures) ∙ h .before .if1 .left in

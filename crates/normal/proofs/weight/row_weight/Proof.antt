@@ -1,10 +1,9 @@
 -- The top has its label alone; another row is on a way, a branch of its own, or goes on with a chain.
-use mathlib.Core.Path.{sym, ap, _∙_}
-use Prim.Native.Nat.{ℕ, _+_}
 use native.Mathlib.Omega.{arith}
 use borrow.Author.Needs.{needs}
+use borrow.Author.Tests.{eq-eqb, ne-eqb}
 use Rattle.rows.proofs.Rows.{row-up}
-use Rattle.normal.proofs.Counting.{row-top, row-way, row-branch, row-chain}
+use Rattle.normal.specs.Weights.{rowWeight}
 use Rattle.normal.proofs.weight.row_weight.Statement.{statement}
 use Rattle.normal.proofs.weight.row_weight.Tie as tie
 
@@ -13,12 +12,11 @@ row-weight-spec =
     tie.close
     (tie.spec
     (λ c. search needs) (λ c. search needs) (λ c κs. c .before .pre .rows .labels _ (c .before .pre .within))
-    (λ c. let (e, l) = c .before .label-weight .ensures in (e ∙ sym (row-top _ _ _ _ _ _ _ (c .if1 .taken)), omega arith))
+    (λ c. let (e, l) = c .before .label-weight .ensures in (unfold rowWeight in rw (eq-eqb _ 0 (c .if1 .taken)) (omega arith), omega arith))
     (λ c κs. search needs) (λ c. search needs)
     (λ c.
     let n = c .before .before in let (e, l) = n .before .label-weight .ensures in
-    let way = sym (c .before .on-way .ensures) ∙ c .if2 .taken in
-    (ap (λ (m : ℕ). m + 2) e ∙ sym (row-way _ _ _ _ _ _ _ (n .if1 .left) way), omega arith))
+    (unfold rowWeight in rw (ne-eqb _ 0 (n .if1 .left), ← c .before .on-way .ensures, c .if2 .taken, e), omega arith))
     (λ c κs. search needs)
     (λ c κs.
     let n = c .before .before .before in let s = n .before .before .before in
@@ -28,13 +26,17 @@ row-weight-spec =
     (λ c.
     let a = c .before .before in let o = a .before .before in let n = o .before in
     let (e, l) = n .before .label-weight .ensures in
-    let off = sym (o .on-way .ensures) ∙ a .before .if2 .left in
-    let at = sym (c .before .branches-at .ensures) ∙ c .if3 .taken in
-    (ap (λ (m : ℕ). m + 3) e ∙ sym (row-branch _ _ _ _ _ _ _ (n .if1 .left) off _ (a .at .ensures .0) at), omega arith))
+    (
+      unfold rowWeight in
+      rw (ne-eqb _ 0 (n .if1 .left), ← o .on-way .ensures, a .before .if2 .left, ← a .at .ensures .0, ← c .before .branches-at .ensures, c .if3 .taken, e),
+      omega arith,
+    ))
     (λ c. search needs)
     (λ c.
     let a = c .before .before in let o = a .before .before in let n = o .before in
     let (e, l) = n .before .label-weight .ensures in
-    let off = sym (o .on-way .ensures) ∙ a .before .if2 .left in
-    let at = sym (c .before .branches-at .ensures) ∙ c .if3 .left in
-    (ap (λ (m : ℕ). m + 2) e ∙ sym (row-chain _ _ _ _ _ _ _ (n .if1 .left) off _ (a .at .ensures .0) at), omega arith)))
+    (
+      unfold rowWeight in
+      rw (ne-eqb _ 0 (n .if1 .left), ← o .on-way .ensures, a .before .if2 .left, ← a .at .ensures .0, ← c .before .branches-at .ensures, c .if3 .left, e),
+      omega arith,
+    )))

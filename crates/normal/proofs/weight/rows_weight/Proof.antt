@@ -16,43 +16,21 @@ Inv-loop code kids span up s d n weight₀ u₀ weight u =
 abbrev μ-loop : tie.MeasureT-loop
 μ-loop code kids span up s d n weight₀ u₀ weight u = n - u
 
-loop-holds : tie.Need-loop-holds Inv-loop μ-loop
-loop-holds c =
-    let n = c .args .n in
-    let z : n - 0 ≡ n = omega arith in
-    (omega arith, omega arith, rw z (omega arith))
-
-row-weight-requires : tie.Need-row-weight-requires Inv-loop μ-loop
-row-weight-requires c κs =
-    let s = c .before .before in
-    record {
-      mark = s .pre .mark;
-      n = s .args .n;
-      rows = s .pre .rows;
-      within = c .loop-test .taken;
-      covers = covers-self (s .pre .rows) (c .before .loop .u) (c .loop-test .taken);
-    }
-
-loop-again : tie.Need-loop-again Inv-loop μ-loop
-loop-again c =
-    let a = c .before .before .before .args in
-    let l = c .before .before .loop in
-    let t = c .before .loop-test .taken in
-    let r = c .row-weight .ensures in
-    let (le, w, e) = l .inv in (
-      omega arith,
-      omega (arith, r .1),
-      omega (arith, r .0, rows-next (a .code .now) (a .kids .now) (a .span .now) (a .up .now) (a .s) (a .d) (a .n) (l .u) t),
-    )
-
-returns : tie.Need-returns Inv-loop μ-loop
-returns c =
-    let a = c .before .before .args in
-    let l = c .before .loop in
-    let (le, w, e) = l .inv in
-    omega (arith, rows-none (a .code .now) (a .kids .now) (a .span .now) (a .up .now) (a .s) (a .d) (a .n) (l .u) (c .loop-test .left))
-
 pub rows-weight-spec : {M : Type 1} → statement M
 rows-weight-spec =
     tie.close
-    (tie.spec Inv-loop μ-loop loop-holds row-weight-requires (λ c. search needs) (λ c. search needs) (λ c. search needs) loop-again returns)
+    (tie.spec
+    Inv-loop μ-loop
+    (λ c. let n = c .args .n in let z : n - 0 ≡ n = omega arith in (omega arith, omega arith, rw z (omega arith)))
+    (λ c κs.
+    let R = c .before .before .pre .rows in let t = c .loop-test .taken in
+    record { mark = _; n = _; rows = R; within = t; covers = covers-self R (c .before .loop .u) t })
+    (λ c. search needs) (λ c. search needs) (λ c. search needs)
+    (λ c.
+    let a = c .before .before .before .args in let l = c .before .before .loop in
+    let (le, w, e) = l .inv in let (r, m) = c .row-weight .ensures in let t = c .before .loop-test .taken in
+    (omega arith, omega arith, omega (arith, rows-next (a .code .now) (a .kids .now) (a .span .now) (a .up .now) (a .s) (a .d) (a .n) (l .u) t)))
+    (λ c.
+    let a = c .before .before .args in let l = c .before .loop in
+    let (le, w, e) = l .inv in
+    omega (arith, rows-none (a .code .now) (a .kids .now) (a .span .now) (a .up .now) (a .s) (a .d) (a .n) (l .u) (c .loop-test .left))))
