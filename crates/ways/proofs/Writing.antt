@@ -159,6 +159,10 @@ module _ {code kids span : List ℕ} {u : ℕ} (R : Row code kids span u) where
 above-cons : (from at : ℕ) (y : Expr) (ys : List Expr) → fill from at (aboveFactor (y ∷ ys) []) ≡ factor from at (fill at at (y ∷ ys) ++ (6 ∷ []))
 above-cons from at y ys = fill-one from at _ ∙ ap (λ (l : List ℕ). factor from at (l ++ (6 ∷ []))) (sym (fill-first at y ys))
 
+pub above-none : (code span : List ℕ) (from at t : ℕ) → t ≡ 0 → fill from at (aboveFactor (wayAt code span t 0) []) ≡ []
+unfolding wayAt
+above-none code span from at t z = rw z (fill-nil from at)
+
 above-some : (code span : List ℕ) (from at t : ℕ) → (t ≡ 0 → ⊥)
     → fill from at (aboveFactor (wayAt code span t 0) []) ≡ factor from at (fill at at (wayAt code span t 0) ++ (6 ∷ []))
 unfolding wayAt

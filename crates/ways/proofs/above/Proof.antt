@@ -1,8 +1,9 @@
 -- t is the top and nothing is written; or the way, the sign 6, and what joins it.
+use mathlib.Core.Path.{sym}
+use native.Mathlib.Omega.{arith}
 use borrow.Author.Needs.{needs}
-use Rattle.branches.proofs.Joining.{fill-nil, written-nil}
-use Rattle.ways.specs.Ways.{wayAt}
-use Rattle.ways.proofs.Writing.{way-fits, six-fits, above-joint, above-done}
+use Rattle.branches.proofs.Joining.{written-nil, written-is}
+use Rattle.ways.proofs.Writing.{above-none, way-fits, six-fits, above-joint, above-done}
 use Rattle.ways.proofs.above.Statement.{statement}
 use Rattle.ways.proofs.above.Tie as tie
 
@@ -10,7 +11,7 @@ pub above-spec : {M : Type 1} → statement M
 above-spec =
     tie.close
     (tie.spec
-    (λ c. unfold wayAt in rw (c .if1 .taken, fill-nil) (written-nil _ _))
+    (λ c. written-is (sym (above-none _ _ _ _ (c .before .before .args .t) (omega (arith, c .if1 .taken)))) (written-nil _ _))
     (λ c κs. let s = c .before .before .before in (s .pre .0, way-fits _ _ _ _ _ (c .before .if1 .left) (s .args .room .now) (s .pre .1)))
     (λ c κs.
     let w = c .before .before .before in let i = w .before .before in let s = i .before .before in
