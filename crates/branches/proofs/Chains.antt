@@ -13,11 +13,11 @@ use Rattle.meaning.specs.Tree.{Forest, bare, tree, Tag}
 use Rattle.meaning.specs.Number.{num}
 use Rattle.meaning.specs.Normal.{labelled, branch, onward, chains, eitherIn, off, wordOf}
 use Rattle.rows.specs.Rows.{covers, labOf, below, mapT, Holds, width}
-use Rattle.rows.proofs.Rows.{size-holds, holds-first, holds-opens, row-opens, row-kids, Opens}
+use Rattle.rows.proofs.Rows.{size-holds, holds-first, row-opens, row-kids, Opens}
 use Rattle.groups.specs.Put.{Written}
 use Rattle.branches.specs.Joining.{joint, fill, factor}
 use Rattle.branches.specs.Factors.{Row, tagged, under, labelAt, onwardAt, chainAt, offAt, branchesAt, ownAt}
-use Rattle.branches.proofs.Joining.{fill-nil, fill-one, fill-first, factor-first, factor-rest, factor-then, written-is}
+use Rattle.branches.proofs.Joining.{fill-one, fill-first, factor-first, factor-rest, factor-then, written-is}
 use Rattle.branches.proofs.Joining.{written-then, written-length, Left, left-start, left-is, left-end, left-fits, left-step, child-step}
 use Rattle.branches.proofs.Covers.{either-covers, covers-before}
 

@@ -83,13 +83,6 @@ fill-append from at (x ∷ xs) ys l = go (ltb from at)
         rw (z, run-append xs ys) (simp append-assoc)
 
 -- ------------------------------------------------------------------ writing
--- something stands before, or nothing does
-pub joint-some : (from at : ℕ) → from < at → joint (ltb from at) ≡ 4 ∷ []
-joint-some from at l = rw (lt-ltb from at l)
-
-pub joint-none : (from at : ℕ) → at ≤ from → joint (ltb from at) ≡ []
-joint-none from at l = rw (le-ltb from at l)
-
 -- a factor, and then the sign that joins it
 module _ (from at : ℕ) (bs : List ℕ) where
   pub factor-first : (n : ℕ) → at + length (factor from at bs) ≤ n → at + length bs ≤ n

@@ -1,6 +1,6 @@
 -- "Let t be the lowest node above or at both s and d": the factors of the tree are those of the ways at row t.
 use mathlib.Core.Path.{_≡_, refl, sym, ap, _∙_}
-use mathlib.Core.Bool.{Bool, true, false, _&&_, _||_}
+use mathlib.Core.Bool.{Bool, true, false, _&&_, _||_, cond}
 use mathlib.Core.List.{List, [], _∷_, _++_, append-assoc, append-nil}
 use Prim.Native.Nat.{ℕ, suc, _+_, _≤_, _<_}
 use native.Mathlib.Decide.{ℕ-discrete, decLt}
@@ -9,7 +9,7 @@ use lib.ListN.{getD}
 use borrow.Author.Tests.{eq-eqb, ne-eqb}
 use Rattle.meaning.specs.Expression.{Expr, child, parent}
 use Rattle.meaning.specs.Tree.{Forest, bare, tree, Tag, size}
-use Rattle.meaning.specs.Normal.{srcIn, dstIn, bothIn, eitherIn, someTree, ups, downs, aboveFactor, around, factors}
+use Rattle.meaning.specs.Normal.{labelled, off, inTree, srcIn, dstIn, bothIn, eitherIn, someTree, ups, downs, aboveFactor, around, factors}
 use Rattle.rows.specs.Rows.{covers, below, shape, mapT, Holds, Rows}
 use Rattle.rows.proofs.Rows.{size-holds, holds-first, rows-top, row-inside}
 use Rattle.branches.specs.Factors.{tagged, under, ownAt}
@@ -148,46 +148,34 @@ module _ {code mark kids span up : List ℕ} {n : ℕ} (R : Rows code mark kids 
         go (no q) (no c) x f g = at-behind u x (mapT (tagged code s d) r) (mapT (tagged code t t) r) way (omega arith) (g (omega arith))
 
   -- ------------------------------------------------------------------ the ways at t
-  -- the way up depends on s alone, and the way down on d alone
+  -- a way to the one row that is so, row x, depends on x alone
+  module _ (q : Tag → Bool) (W : Forest Tag → List Expr) (next : Tag → Forest Tag → List Expr)
+      (way-tree : (b : Tag) (j r : Forest Tag) → W (tree b j r) ≡ cond (inTree q b j) (next b j) (W r)) (s d x : ℕ)
+      (here : (u : ℕ) → u < n → inTree q (tagged code s d u) (under code span s d u) ≡ inTree q (tagged code x x u) (under code span x x u))
+      (step : (u : ℕ) → u < n → W (under code span s d u) ≡ W (under code span x x u)
+      → next (tagged code s d u) (under code span s d u) ≡ next (tagged code x x u) (under code span x x u)) where
+    way-same : (u e : ℕ) (G : Forest ℕ) → Holds span u e G → e ≤ n → W (mapT (tagged code s d) G) ≡ W (mapT (tagged code x x) G)
+    unfolding mapT under
+    way-same u e bare h l = refl
+    way-same u e (tree i k r) h l =
+        let z = holds-first span u e i k r h in
+        let w = size-holds span u e (tree i k r) h in
+        let m : u < n = omega arith in
+        let y = way-same (suc i) (suc i + size k) k (h .2) (omega (arith, size-holds span (suc i + size k) e r (h .3))) in
+        let y′ : W (under code span s d u) ≡ W (under code span x x u) = rw (z .0) y in
+        rw (← h .0, ← z .0, way-tree (tagged code s d u) _ _, way-tree, here u m, step u m y′, way-same (u + getD span u 0) e r (z .2) l)
+
   ups-same : (s d u e : ℕ) (G : Forest ℕ) → Holds span u e G → e ≤ n → ups (mapT (tagged code s d) G) ≡ ups (mapT (tagged code s s) G)
-  unfolding mapT under
-  ups-same s d u e bare h l = refl
-  ups-same s d u e (tree i k r) h l =
-      let z = holds-first span u e i k r h in
-      let w = size-holds span u e (tree i k r) h in
-      let m : u < n = omega arith in
-      let x = ups-same s d (suc i) (suc i + size k) k (h .2) (omega (arith, size-holds span (suc i + size k) e r (h .3))) in
-      let x′ : ups (under code span s d u) ≡ ups (under code span s s u) = rw (z .0) x in
-      rw (
-        ← h .0,
-        ← z .0,
-        src-covers code span s d u e (z .1),
-        src-covers code span s s u e (z .1),
-        own-is R srcIn s d s s (src-same R s d) u m (parent ∷ []),
-        own-is R srcIn s s s s (src-same R s s) u m (parent ∷ []),
-        x′,
-        ups-same s d (u + getD span u 0) e r (z .2) l,
-      )
+  ups-same s d =
+      way-same (λ t. t .src) ups (λ b j. ups j ++ labelled (b .lab) (off srcIn j (parent ∷ []))) (λ b j r. refl) s d s
+      (λ u m. src-covers code span s d u n (row-open R u m) ∙ sym (src-covers code span s s u n (row-open R u m)))
+      (λ u m y. rw (y, own-is R srcIn s d s s (src-same R s d) u m (parent ∷ []), own-is R srcIn s s s s (src-same R s s) u m (parent ∷ [])))
 
   downs-same : (s d u e : ℕ) (G : Forest ℕ) → Holds span u e G → e ≤ n → downs (mapT (tagged code s d) G) ≡ downs (mapT (tagged code d d) G)
-  unfolding mapT under
-  downs-same s d u e bare h l = refl
-  downs-same s d u e (tree i k r) h l =
-      let z = holds-first span u e i k r h in
-      let w = size-holds span u e (tree i k r) h in
-      let m : u < n = omega arith in
-      let x = downs-same s d (suc i) (suc i + size k) k (h .2) (omega (arith, size-holds span (suc i + size k) e r (h .3))) in
-      let x′ : downs (under code span s d u) ≡ downs (under code span d d u) = rw (z .0) x in
-      rw (
-        ← h .0,
-        ← z .0,
-        dst-covers code span s d u e (z .1),
-        dst-covers code span d d u e (z .1),
-        own-is R dstIn s d d d (dst-same R s d) u m (downs (under code span s d u)),
-        own-is R dstIn d d d d (dst-same R d d) u m (downs (under code span d d u)),
-        x′,
-        downs-same s d (u + getD span u 0) e r (z .2) l,
-      )
+  downs-same s d =
+      way-same (λ t. t .dst) downs (λ b j. child ∷ labelled (b .lab) (off dstIn j (downs j))) (λ b j r. refl) s d d
+      (λ u m. dst-covers code span s d u n (row-open R u m) ∙ sym (dst-covers code span d d u n (row-open R u m)))
+      (λ u m y. rw (own-is R dstIn s d d d (dst-same R s d) u m (downs (under code span s d u)), own-is R dstIn d d d d (dst-same R d d) u m (downs (under code span d d u)), y))
 
   above-append : (way l : List Expr) → aboveFactor way l ≡ aboveFactor way [] ++ l
   above-append [] l = refl

@@ -16,7 +16,7 @@ use Rattle.groups.specs.Put.{Written}
 use Rattle.branches.specs.Joining.{joint, fill, factor}
 use Rattle.branches.specs.Factors.{Row, ownAt}
 use Rattle.branches.proofs.Joining.{fill-nil, fill-one, fill-first, fill-parent, fill-then, factor-first, factor-rest, factor-then, written-nil}
-use Rattle.branches.proofs.Joining.{written-is, written-then, written-length, written-reached, Left, left-start, left-is, left-step, left-fits}
+use Rattle.branches.proofs.Joining.{written-is, written-then, written-length, written-reached, Left, left-start, left-is, left-step, left-fits, child-step}
 use Rattle.ways.specs.Ways.{Covers, Among, Part, Climb, upsAt, downsAt, wayAt}
 use Rattle.ways.proofs.Walk.{row-open, among-from, ups-step, downs-step, way-step, ups-end, downs-end, way-end}
 use Rattle.ways.proofs.Steps.{covers-self, parent-less, parent-covers, parent-among, parent-least}
@@ -70,15 +70,18 @@ module _ {code kids span up : List ℕ} {t s : ℕ} (C : Climb code kids span up
 
   module _ (x : ℕ) (tx : t ≤ x) (v : Covers span x s) (ne : x ≡ t → ⊥)
       {d₀ : List ℕ} {from : ℕ} {d : List ℕ} {at : ℕ} (w : Written d₀ from (fill from from (upsAt code span s x)) d at) where
-    pub rise-later : (zs : List Expr) × (upsAt code span s t ≡ upsAt code span s (getD up x 0) ++ zs)
-    rise-later = ups-begin (getD up x 0) (getD up x 0) (omega arith) (rise-from x tx v ne) (rise-covers x tx v ne)
+    later : (zs : List Expr) × (upsAt code span s t ≡ upsAt code span s (getD up x 0) ++ zs)
+    later = ups-begin (getD up x 0) (getD up x 0) (omega arith) (rise-from x tx v ne) (rise-covers x tx v ne)
 
     -- row x's own factors are the next, then parent
-    pub rise-left : from + length (fill from from (upsAt code span s t)) ≤ length d₀
-        → Left d₀ from from (upsAt code span s t) d at (ownAt code span s s x ++ ((parent ∷ []) ++ rise-later .0))
+    rise-left : from + length (fill from from (upsAt code span s t)) ≤ length d₀
+        → Left d₀ from from (upsAt code span s t) d at (ownAt code span s s x ++ ((parent ∷ []) ++ later .0))
     rise-left l =
         left-step (upsAt code span s x) _
-        (left-is (rise-later .1 ∙ ap (λ (l : List Expr). l ++ rise-later .0) (rise-step x tx v ne) ∙ simp append-assoc) (left-start (omega arith) l)) w
+        (left-is (later .1 ∙ ap (λ (l : List Expr). l ++ later .0) (rise-step x tx v ne) ∙ simp append-assoc) (left-start (omega arith) l)) w
+
+    pub rise-own : from + length (fill from from (upsAt code span s t)) ≤ length d₀ → at + length (fill from at (ownAt code span s s x)) ≤ length d
+    rise-own l = left-fits _ _ (rise-left l)
 
     module _ {d₁ : List ℕ} {a : ℕ} (y : Written d at (fill from at (ownAt code span s s x)) d₁ a) where
       pub rise-parent : from + length (fill from from (upsAt code span s t)) ≤ length d₀ → a + length (factor from a (num 3)) ≤ length d₁
@@ -109,11 +112,29 @@ module _ {code kids span : List ℕ} {u : ℕ} (R : Row code kids span u) where
     pub child-behind : u < c
     child-behind = among-from span (suc u) (u + getD span u 0) (below span u) (row-open (R .rows) u (R .within) .held) c a
 
-    pub down-parts : downsAt code span x u ≡ child ∷ (ownAt code span x x c ++ downsAt code span x c)
-    down-parts = downs-step (R .rows) u c (R .within) within a x v
+    module _ {d₀ : List ℕ} {from at₀ : ℕ} {xs : List Expr} {d : List ℕ} {at : ℕ} where
+      -- down to d: child, and then row c's own factors
+      module _ (L : Left d₀ from at₀ xs d at (downsAt code span x u)) where
+        pub down-start : Left d₀ from at₀ xs d at (child ∷ (ownAt code span x x c ++ downsAt code span x c))
+        down-start = left-is (downs-step (R .rows) u c (R .within) within a x v) L
 
-    pub way-parts : (u ≡ x → ⊥) → wayAt code span x u ≡ ownAt code span x x u ++ (child ∷ wayAt code span x c)
-    way-parts ne = way-step (R .rows) u c (R .within) within a x v ne
+        module _ {d₁ : List ℕ} {b : ℕ} (s : Written d at (factor from at (num 2)) d₁ b) where
+          pub down-own : b + length (fill from b (ownAt code span x x c)) ≤ length d₁
+          down-own = left-fits _ _ (child-step down-start s)
+
+          pub down-done : {d₂ : List ℕ} {r : ℕ} → Written d₁ b (fill from b (ownAt code span x x c)) d₂ r → Left d₀ from at₀ xs d₂ r (downsAt code span x c)
+          down-done o = left-step _ _ (child-step down-start s) o
+
+      -- the way above: row u's own factors, and then child
+      module _ (ne : u ≡ x → ⊥) (L : Left d₀ from at₀ xs d at (wayAt code span x u)) where
+        way-start : Left d₀ from at₀ xs d at (ownAt code span x x u ++ (child ∷ wayAt code span x c))
+        way-start = left-is (way-step (R .rows) u c (R .within) within a x v ne) L
+
+        pub way-own : at + length (fill from at (ownAt code span x x u)) ≤ length d
+        way-own = left-fits _ _ way-start
+
+        pub way-done : {d₁ : List ℕ} {b : ℕ} → Written d at (fill from at (ownAt code span x x u)) d₁ b → Left d₀ from at₀ xs d₁ b (child ∷ wayAt code span x c)
+        way-done o = left-step _ _ way-start o
 
   -- the way starts at the top, where everything lies below
   pub top-row : Row code kids span 0
@@ -142,7 +163,7 @@ pub above-none : (code span : List ℕ) (from at t : ℕ) → t ≡ 0 → fill f
 unfolding wayAt
 above-none code span from at t z = rw z (fill-nil from at)
 
-pub above-some : (code span : List ℕ) (from at t : ℕ) → (t ≡ 0 → ⊥)
+above-some : (code span : List ℕ) (from at t : ℕ) → (t ≡ 0 → ⊥)
     → fill from at (aboveFactor (wayAt code span t 0) []) ≡ factor from at (fill at at (wayAt code span t 0) ++ (6 ∷ []))
 unfolding wayAt
 above-some code span from at t ne = rw (ne-eqb 0 t (λ q. ne (sym q))) (go (ownAt code span t t 0) _)

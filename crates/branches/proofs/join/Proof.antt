@@ -1,9 +1,8 @@
 -- Something stands before the factor, or nothing does.
-use mathlib.Core.Path.{ap, sym}
 use native.Mathlib.Omega.{arith}
-use lib.ListN.{length}
-use Rattle.branches.proofs.Joining.{joint-some, joint-none, written-nil, written-is}
 use borrow.Author.Needs.{needs}
+use borrow.Author.Tests.{lt-ltb, le-ltb}
+use Rattle.branches.proofs.Joining.{written-nil}
 use Rattle.branches.proofs.join.Statement.{statement}
 use Rattle.branches.proofs.join.Tie as tie
 
@@ -11,8 +10,9 @@ pub join-spec : {M : Type 1} → statement M
 join-spec =
     tie.close
     (tie.spec
-    (λ c κs. omega (arith, ap length (joint-some _ _ (c .before .if1 .taken)))) (λ c. search needs)
+    (λ c κs. let f = rw (lt-ltb _ _ (c .before .if1 .taken)) at (c .before .before .before .pre) in omega arith)
+    (λ c. search needs)
     (λ c.
     let p = c .before .before in
-    written-is (sym (joint-some _ _ (p .before .before .if1 .taken))) (record { place = p .put-byte .ensures .0; bytes = p .put-byte .ensures .1 }))
-    (λ c. written-is (sym (joint-none _ _ (c .if1 .left))) (written-nil _ _)))
+    rw (lt-ltb _ _ (p .before .before .if1 .taken)) (record { place = p .put-byte .ensures .0; bytes = p .put-byte .ensures .1 }))
+    (λ c. rw (le-ltb _ _ (c .if1 .left)) (written-nil _ _)))

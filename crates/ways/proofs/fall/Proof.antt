@@ -2,9 +2,9 @@
 use Prim.Native.Nat.{_-_}
 use native.Mathlib.Omega.{arith}
 use Rattle.branches.specs.Factors.{Row}
-use Rattle.branches.proofs.Joining.{written-length, Left, left-start, left-is, left-end, left-fits, left-step, child-fits, child-step}
+use Rattle.branches.proofs.Joining.{written-length, written-reached, Left, left-start, left-is, left-end, child-fits}
 use Rattle.ways.specs.Ways.{Covers, downsAt}
-use Rattle.ways.proofs.Writing.{row-part, child-row, child-behind, down-parts, downs-nil}
+use Rattle.ways.proofs.Writing.{row-part, child-row, child-behind, down-start, down-own, down-done, downs-nil}
 use Rattle.ways.proofs.fall.Statement.{statement}
 use Rattle.ways.proofs.fall.Tie as tie
 
@@ -27,16 +27,16 @@ fall-spec =
     (λ c κs. let (R, v, L) = c .before .loop .inv in (row-part R, omega (arith, v .from, c .loop-test .taken), v))
     (λ c κs.
     let (R, v, L) = c .before .before .before .loop .inv in let (a, w) = c .before .child-to .ensures in
-    child-fits (left-is (down-parts R a w v) L))
+    child-fits (down-start R a w v L))
     (λ c κs.
     let p = c .before .before .before in let t = p .before .before in
     let (R, v, L) = t .before .before .loop .inv in let (a, w) = t .child-to .ensures in
-    let M = child-step (left-is (down-parts R a w v) L) (p .put-sign .ensures) in (child-row R a w v, M .reached, left-fits _ _ M))
+    (child-row R a w v, written-reached (L .reached) (p .put-sign .ensures), down-own R a w v L (p .put-sign .ensures)))
     (λ c.
     let t = c .before .before .before .before .before .before .before .before in
     let (R, v, L) = t .before .before .loop .inv in let (a, w) = t .child-to .ensures in omega (arith, child-behind R a w v, w .from))
     (λ c.
     let p = c .before .before .before .before .before .before in let t = p .before .before in
     let (R, v, L) = t .before .before .loop .inv in let (a, w) = t .child-to .ensures in
-    (child-row R a w v, w, left-step _ _ (child-step (left-is (down-parts R a w v) L) (p .put-sign .ensures)) (c .before .before .own .ensures)))
+    (child-row R a w v, w, down-done R a w v L (p .put-sign .ensures) (c .before .before .own .ensures)))
     (λ c. written-length (returns c)) returns)

@@ -4,9 +4,9 @@ use native.Mathlib.Omega.{arith}
 use borrow.Author.Needs.{needs}
 use Rattle.groups.specs.Put.{Written}
 use Rattle.branches.specs.Joining.{fill}
-use Rattle.branches.proofs.Joining.{written-length, left-fits}
+use Rattle.branches.proofs.Joining.{written-length, written-reached}
 use Rattle.ways.specs.Ways.{Covers, upsAt}
-use Rattle.ways.proofs.Writing.{climb-row, rise-start, rise-less, rise-covers, rise-from, rise-left, rise-parent, rise-next}
+use Rattle.ways.proofs.Writing.{climb-row, rise-start, rise-less, rise-covers, rise-from, rise-own, rise-parent, rise-next}
 use Rattle.ways.proofs.rise.Statement.{statement}
 use Rattle.ways.proofs.rise.Tie as tie
 
@@ -26,7 +26,7 @@ rise-spec =
     (λ c κs.
     let t = c .before in let h = t .before in
     let (tx, v, w) = h .loop .inv in let (C, f) = h .before .before .pre in
-    let L = rise-left C (h .loop .x) tx v (t .loop-test .taken) w f in (climb-row C (h .loop .x) v, L .reached, left-fits _ _ L))
+    (climb-row C (h .loop .x) v, written-reached (omega arith) w, rise-own C (h .loop .x) tx v (t .loop-test .taken) w f))
     (λ c κs.
     let o = c .before .before .before in let t = o .before .before in let h = t .before in
     let (tx, v, w) = h .loop .inv in let (C, f) = h .before .before .pre in

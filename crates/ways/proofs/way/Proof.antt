@@ -2,9 +2,9 @@
 use Prim.Native.Nat.{_-_}
 use native.Mathlib.Omega.{arith}
 use Rattle.branches.specs.Factors.{Row}
-use Rattle.branches.proofs.Joining.{written-length, Left, left-start, left-is, left-end, left-fits, left-step, child-fits, child-step}
+use Rattle.branches.proofs.Joining.{written-length, Left, left-start, left-is, left-end, child-fits, child-step}
 use Rattle.ways.specs.Ways.{Covers, wayAt}
-use Rattle.ways.proofs.Writing.{row-part, child-row, child-behind, way-parts, top-row, top-covers, way-nil}
+use Rattle.ways.proofs.Writing.{row-part, child-row, child-behind, way-own, way-done, top-row, top-covers, way-nil}
 use Rattle.ways.proofs.way.Statement.{statement}
 use Rattle.ways.proofs.way.Tie as tie
 
@@ -28,19 +28,16 @@ way-spec =
     (λ c κs.
     let t = c .before .before in
     let (R, v, L) = t .before .loop .inv in let (a, w) = c .before .child-to .ensures in
-    (R, L .reached, left-fits _ _ (left-is (way-parts R a w v (t .loop-test .taken)) L)))
+    (R, L .reached, way-own R a w v (t .loop-test .taken) L))
     (λ c κs.
     let o = c .before .before .before in let k = o .before .before in let t = k .before in
     let (R, v, L) = t .before .loop .inv in let (a, w) = k .child-to .ensures in
-    child-fits (left-step _ _ (left-is (way-parts R a w v (t .loop-test .taken)) L) (o .own .ensures)))
+    child-fits (way-done R a w v (t .loop-test .taken) L (o .own .ensures)))
     (λ c.
     let k = c .before .before .before .before .before .before .before .before in
     let (R, v, L) = k .before .before .loop .inv in let (a, w) = k .child-to .ensures in omega (arith, child-behind R a w v, w .from))
     (λ c.
     let o = c .before .before .before .before .before .before in let k = o .before .before in let t = k .before in
-    let (R, v, L) = t .before .loop .inv in let (a, w) = k .child-to .ensures in (
-      child-row R a w v,
-      w,
-      child-step (left-step _ _ (left-is (way-parts R a w v (t .loop-test .taken)) L) (o .own .ensures)) (c .before .before .put-sign .ensures),
-    ))
+    let (R, v, L) = t .before .loop .inv in let (a, w) = k .child-to .ensures in
+    (child-row R a w v, w, child-step (way-done R a w v (t .loop-test .taken) L (o .own .ensures)) (c .before .before .put-sign .ensures)))
     (λ c. written-length (returns c)) returns)

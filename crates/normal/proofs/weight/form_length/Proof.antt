@@ -20,8 +20,11 @@ form-length-spec =
     (λ c κs. record { mark = _; rows = c .before .before .before .before .pre .rows })
     (λ c.
     let l = c .before .before in let r = l .before .before in let i = r .before in
-    omega (arith, c .before .rows-weight .ensures,
-    counted-above (i .before .pre) (i .if1 .left) (r .row-of .ensures) (l .before .row-of2 .ensures) (l .lowest .ensures) (c .if2 .taken)))
+    omega (
+      arith,
+      c .before .rows-weight .ensures,
+      counted-above (i .before .pre) (i .if1 .left) (r .row-of .ensures) (l .before .row-of2 .ensures) (l .lowest .ensures) (c .if2 .taken),
+    ))
     (λ c.
     let w = c .before .before in let l = w .before in let r = l .before .before in let i = r .before in
     sym (counted-none (i .before .pre) (i .if1 .left) (r .row-of .ensures) (l .before .row-of2 .ensures) (l .lowest .ensures) (c .before .if2 .left)
@@ -30,6 +33,8 @@ form-length-spec =
     (λ c.
     let w = c .before .before in let l = w .before in let r = l .before .before in let i = r .before in
     let e = w .rows-weight .ensures in
-    omega (arith,
-    counted-some (i .before .pre) (i .if1 .left) (r .row-of .ensures) (l .before .row-of2 .ensures) (l .lowest .ensures) (c .before .if2 .left)
-    (omega (arith, c .if3 .left)))))
+    omega (
+      arith,
+      counted-some (i .before .pre) (i .if1 .left) (r .row-of .ensures) (l .before .row-of2 .ensures) (l .lowest .ensures) (c .before .if2 .left)
+          (omega (arith, c .if3 .left)),
+    )))

@@ -25,18 +25,16 @@ row-weight-spec =
     (λ c. search needs)
     (λ c.
     let a = c .before .before in let o = a .before .before in let n = o .before in
-    let (e, l) = n .before .label-weight .ensures in
-    (
+    let (e, l) = n .before .label-weight .ensures in (
       unfold rowWeight in
-      rw (ne-eqb _ 0 (n .if1 .left), ← o .on-way .ensures, a .before .if2 .left, ← a .at .ensures .0, ← c .before .branches-at .ensures, c .if3 .taken, e),
+          rw (ne-eqb _ 0 (n .if1 .left), ← o .on-way .ensures, a .before .if2 .left, ← a .at .ensures .0, ← c .before .branches-at .ensures, c .if3 .taken, e),
       omega arith,
     ))
     (λ c. search needs)
     (λ c.
     let a = c .before .before in let o = a .before .before in let n = o .before in
-    let (e, l) = n .before .label-weight .ensures in
-    (
+    let (e, l) = n .before .label-weight .ensures in (
       unfold rowWeight in
-      rw (ne-eqb _ 0 (n .if1 .left), ← o .on-way .ensures, a .before .if2 .left, ← a .at .ensures .0, ← c .before .branches-at .ensures, c .if3 .left, e),
+          rw (ne-eqb _ 0 (n .if1 .left), ← o .on-way .ensures, a .before .if2 .left, ← a .at .ensures .0, ← c .before .branches-at .ensures, c .if3 .left, e),
       omega arith,
     )))
