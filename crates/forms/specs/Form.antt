@@ -6,12 +6,13 @@ use mathlib.Core.List.{List}
 use mathlib.Core.Option.{Option}
 use Prim.Native.Nat.{ℕ}
 use Rattle.meaning.specs.TreeQuery.{Query}
-use Rattle.meaning.specs.Tree.{Forest, Tag, plainTree}
-use Rattle.meaning.specs.Image.{plainImage, minimalImage, ordered, minimalTree}
+use Rattle.meaning.specs.Tree.{Forest, Tag}
+use Rattle.meaning.specs.Image.{plainImage, minimalImage}
 use Rattle.meaning.specs.Normal.{normal, wordOf, normalForm}
 use Rattle.meaning.specs.Word.{Outcome, refused, answered}
 use Rattle.meaning.specs.Promise.{fitting, lengthOf, roomAfter}
 use Rattle.rows.specs.Rows.{treeRows}
+use Rattle.rows.specs.Table.{imageTree}
 use Rattle.image.specs.Listing.{listing}
 use Rattle.forms.specs.declared.Form.{Form}
 use Rattle.forms.specs.declared.Form.the-variants.{Plain, Minimal, Normal}
@@ -24,15 +25,15 @@ formOf Plain = plainImage
 formOf Minimal = minimalImage
 formOf Normal = normalForm
 
--- the form is of the plain tree; the two others are of the minimal tree
-abbrev pub isPlain : Form → Bool
-isPlain Plain = true
-isPlain Minimal = false
-isPlain Normal = false
+-- the form is of the minimal tree, and not of the plain tree
+abbrev pub isFolded : Form → Bool
+isFolded Plain = false
+isFolded Minimal = true
+isFolded Normal = true
 
 -- the tree that the form is of, with brothers in image order
 abbrev pub formTree : Form → Option Query → Forest Tag
-formTree form Q = cond (isPlain form) (ordered (plainTree Q)) (minimalTree Q)
+formTree form Q = imageTree (isFolded form) Q
 
 -- the form is a word; the two others are images
 abbrev pub isNormal : Form → Bool

@@ -1,6 +1,6 @@
 -- What the rows of a form of an accepted word give: the form's bytes, and what the writer and the pair question ask of them.
 use mathlib.Core.Path.{_≡_, refl, sym, ap, subst, _∙_}
-use mathlib.Core.Bool.{Bool, true, false, cond}
+use mathlib.Core.Bool.{Bool}
 use mathlib.Core.Option.{Option, none, some}
 use mathlib.Core.List.{List}
 use Prim.Native.Nat.{ℕ, _<_}
@@ -17,15 +17,16 @@ use Rattle.theory.proofs.Marks.{QueryTree, query-tree, ordered-query-tree}
 use Rattle.theory.proofs.Plain.{Means, plain-means}
 use Rattle.theory.proofs.Same.{least-tree}
 use Rattle.rows.specs.Rows.{treeRows}
+use Rattle.rows.specs.Table.{imageTree}
 use Rattle.rows.proofs.Rows.{size-rows}
 use Rattle.normal.specs.Forms.{QueryRows}
 use Rattle.word.specs.Answer.{checkedOf, verdict}
 use Rattle.word.specs.declared.whole.Checked.{Checked}
 use Rattle.word.specs.declared.whole.Checked.the-variants as Checked
-use Rattle.query.specs.Trees.{Accepted, RowsOf, PlainRows, MinimalRows}
+use Rattle.query.specs.Trees.{Accepted, RowsOf}
 use Rattle.forms.specs.declared.Form.{Form}
 use Rattle.forms.specs.declared.Form.the-variants.{Plain, Minimal, Normal}
-use Rattle.forms.specs.Form.{formOf, isPlain, formTree, bytesOf}
+use Rattle.forms.specs.Form.{formOf, isFolded, formTree, bytesOf}
 use Rattle.forms.proofs.Forms.{form-rows}
 
 -- a word that is told to be refused is refused so
@@ -43,17 +44,11 @@ form-tree Plain Q v = ordered-query-tree (treeOf Q) (query-tree Q v)
 form-tree Minimal Q v = least-tree Q v
 form-tree Normal Q v = least-tree Q v
 
--- the plain tree's rows are those of the one form, the minimal tree's those of the others
-module _ (form : Form) {word code mark kids span up : List ℕ} {n : ℕ} where
-  rows-as : {b : Bool} → isPlain form ≡ b → RowsOf (λ e. cond b (ordered (plainTree (plain e))) (minimalTree (plain e))) word code mark kids span up n
-      → RowsOf (λ e. formTree form (plain e)) word code mark kids span up n
-  rows-as q = subst (λ b. RowsOf (λ e. cond b (ordered (plainTree (plain e))) (minimalTree (plain e))) word code mark kids span up n) (sym q)
-
-  pub rows-plain : isPlain form ≡ true → PlainRows word code mark kids span up n → RowsOf (λ e. formTree form (plain e)) word code mark kids span up n
-  rows-plain q R = rows-as q R
-
-  pub rows-minimal : isPlain form ≡ false → MinimalRows word code mark kids span up n → RowsOf (λ e. formTree form (plain e)) word code mark kids span up n
-  rows-minimal q R = rows-as q R
+-- the rows of the tree that a form is of
+pub rows-form : (form : Form) {folded : Bool} {word code mark kids span up : List ℕ} {n : ℕ} → folded ≡ isFolded form
+    → RowsOf (λ e. imageTree folded (plain e)) word code mark kids span up n → RowsOf (λ e. formTree form (plain e)) word code mark kids span up n
+rows-form form {word = word} {code} {mark} {kids} {span} {up} {n} q R =
+    subst (λ b. RowsOf (λ e. imageTree b (plain e)) word code mark kids span up n) q R
 
 module _ (form : Form) {word code mark kids span up : List ℕ} {n : ℕ} (R : RowsOf (λ e. formTree form (plain e)) word code mark kids span up n)
     (acc : Accepted word) where

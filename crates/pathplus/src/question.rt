@@ -66,7 +66,15 @@ fn tell(
     let mut kids = [0u16; MOST_NODES];
     let mut span = [0u16; MOST_NODES];
     let mut up = [0u16; MOST_NODES];
-    let rows = query::minimal_rows(word, &mut code, &mut mark, &mut kids, &mut span, &mut up);
+    let rows = query::word_rows(
+        true,
+        word,
+        &mut code,
+        &mut mark,
+        &mut kids,
+        &mut span,
+        &mut up,
+    );
     if taken(
         &code,
         &mark,

@@ -2,48 +2,22 @@
 use forms::Form;
 use forms::Written;
 use limits::most::MOST_NODES;
-use rows::Codes;
-use rows::Links;
-use rows::Marks;
 use word::whole::Checked;
 use word::whole::check_word;
 ghost use mathlib.Core.Path.{_≡_};
-ghost use Rattle.meaning.specs.Gluing.{plain};
 ghost use Rattle.meaning.specs.Promise.{Writes, PlainImage, MinimalImage, NormalForm};
-ghost use Rattle.query.specs.Trees.{Accepted, RowsOf};
-ghost use Rattle.rows.specs.Rows.{Room};
-ghost use Rattle.forms.specs.Form.{formOf, isPlain, formTree, writtenOf};
+ghost use Rattle.query.specs.Trees.{Accepted};
+ghost use Rattle.forms.specs.Form.{formOf, isFolded, writtenOf};
 
-// Whether the form is of the plain tree; the two others are of the minimal tree.
-fn is_plain(form: Form) -> bool
-    ensures { λ r. ⌜ r ≡ isPlain form ⌝ }
+// Whether the form is of the minimal tree.
+fn is_folded(form: Form) -> bool
+    ensures { λ r. ⌜ r ≡ isFolded form ⌝ }
 {
     match form {
-        Form::Plain => true,
-        Form::Minimal => false,
-        Form::Normal => false,
+        Form::Plain => false,
+        Form::Minimal => true,
+        Form::Normal => true,
     }
-}
-
-// The rows of the form's tree of an accepted word.
-fn form_rows(
-    form: Form,
-    word: &[u8],
-    code: &mut Codes,
-    mark: &mut Marks,
-    kids: &mut Links,
-    span: &mut Links,
-    up: &mut Links,
-) -> usize
-    requires { ⌜ Accepted (now word) × Room (now code) (now mark) (now kids) (now span) (now up) ⌝ }
-    ensures { λ r. ⌜
-        RowsOf (λ e. formTree form (plain e)) (now (word .entry))
-        (now (code .exit)) (now (mark .exit)) (now (kids .exit)) (now (span .exit)) (now (up .exit)) r ⌝ }
-{
-    if is_plain(form) {
-        return query::plain_rows(word, code, mark, kids, span, up);
-    }
-    query::minimal_rows(word, code, mark, kids, span, up)
 }
 
 // The form of an accepted word.
@@ -56,8 +30,8 @@ fn write_accepted(form: Form, word: &[u8], room: &mut [u8]) -> Written
     let mut kids = [0u16; MOST_NODES];
     let mut span = [0u16; MOST_NODES];
     let mut up = [0u16; MOST_NODES];
-    let n = form_rows(
-        form,
+    let n = query::word_rows(
+        is_folded(form),
         word,
         &mut code,
         &mut mark,

@@ -1,11 +1,9 @@
--- The plain tree and the minimal tree of an accepted word, as rows in image order.
+-- A tree of an accepted word, as rows in image order.
 use mathlib.Core.Path.{_≡_}
 use mathlib.Core.List.{List}
 use Prim.Native.Nat.{ℕ}
 use Rattle.meaning.specs.Expression.{Expr}
-use Rattle.meaning.specs.Gluing.{plain}
-use Rattle.meaning.specs.Tree.{Forest, Tag, plainTree}
-use Rattle.meaning.specs.Image.{ordered, minimalTree}
+use Rattle.meaning.specs.Tree.{Forest, Tag}
 use Rattle.meaning.specs.Word.{answered, readWord}
 use Rattle.rows.specs.Rows.{Rows, Room, treeRows}
 
@@ -18,10 +16,3 @@ pub record RowsOf (f : Expr → Forest Tag) (word code mark kids span up : List 
   pub rows : Rows code mark kids span up n
   pub tree : (e : Expr) → readWord word ≡ answered e → treeRows code mark span n ≡ f e
   pub room : Room code mark kids span up
-
--- .. its plain tree, its minimal tree, with brothers in image order
-abbrev pub PlainRows : List ℕ → List ℕ → List ℕ → List ℕ → List ℕ → List ℕ → ℕ → Type 0
-PlainRows = RowsOf (λ e. ordered (plainTree (plain e)))
-
-abbrev pub MinimalRows : List ℕ → List ℕ → List ℕ → List ℕ → List ℕ → List ℕ → ℕ → Type 0
-MinimalRows = RowsOf (λ e. minimalTree (plain e))

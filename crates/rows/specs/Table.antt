@@ -1,7 +1,7 @@
 -- A tree as a table of parents: row i has its parent's row, noRow at the top, and bears a label code and a mark.
 -- Its brothers stand in the order of the table, which is any order. "No rows" stands for empty.
 use mathlib.Core.Path.{_≡_}
-use mathlib.Core.Bool.{cond}
+use mathlib.Core.Bool.{Bool, true, false, cond}
 use mathlib.Core.Option.{Option, none, some}
 use mathlib.Core.List.{List, [], _∷_}
 use Prim.Native.Nat.{ℕ, zero, suc, _≤_, _<_}
@@ -10,7 +10,9 @@ use lib.Dec.{eqb}
 use Rattle.meaning.specs.Limits.{mostNodes}
 use Rattle.meaning.specs.Number.{largestLabel}
 use Rattle.meaning.specs.TreeQuery.{Row, node, Table, Query, TreeQuery}
-use Rattle.meaning.specs.Tree.{Forest, bare, Tag, plant}
+use Rattle.meaning.specs.Tree.{Forest, bare, Tag, plant, plainTree}
+use Rattle.meaning.specs.Folding.{minimal}
+use Rattle.meaning.specs.Image.{ordered}
 use Rattle.rows.specs.Rows.{labOf, tagAt, mapT, noRow}
 
 -- ------------------------------------------------------------------ the tree query of a table
@@ -68,6 +70,16 @@ tableShape parent n = grown (suc n) parent n noRow
 -- the tree that the table is; no rows are the empty tree
 unfoldable pub tableTree : List ℕ → List ℕ → List ℕ → ℕ → Forest Tag
 tableTree parent code mark n = mapT (tagAt code mark) (tableShape parent n)
+
+-- ------------------------------------------------------------------ plain or folded
+-- a tree as it is, or folded to the end
+abbrev pub leftOf : Bool → Forest Tag → Forest Tag
+leftOf true T = minimal T
+leftOf false T = T
+
+-- the plain tree of a query, or its minimal tree, with brothers in image order
+abbrev pub imageTree : Bool → Option Query → Forest Tag
+imageTree folded Q = ordered (leftOf folded (plainTree Q))
 
 -- ------------------------------------------------------------------ when a table is a tree
 -- n rows that are a tree, or no rows: levels say that no row lies above itself, and at most one row, at level 0, has no parent

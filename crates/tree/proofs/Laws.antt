@@ -1,6 +1,7 @@
 -- A table that is a tree query, marked at s and d, may be laid out, and its tree is the plain tree of the query.
 -- Rows that are a tree may be folded and put in order.
 use mathlib.Core.Path.{_≡_, refl, sym, ap, subst, _∙_}
+use mathlib.Core.Logic.{inl}
 use mathlib.Core.Bool.{Bool, true, false}
 use mathlib.Core.List.{List}
 use Prim.Native.Nat.{ℕ, zero, suc, _≤_, _<_}
@@ -12,17 +13,17 @@ use lib.Seq.{getD-set-same, getD-set-other}
 use Rattle.meaning.specs.Basics.{is}
 use Rattle.meaning.specs.TreeQuery.{Tree, TreeQuery}
 use Rattle.meaning.specs.Tree.{plainTree}
-use Rattle.meaning.specs.Folding.{minimal}
 use Rattle.meaning.specs.Image.{markCode, ordered}
 use Rattle.theory.proofs.Look.{never}
 use Rattle.rows.specs.Rows.{Rows, treeRows, mapT}
-use Rattle.rows.specs.Table.{table, query, queryOf, QueryTable, TreeTable, tableTree, tableShape, grown, childrenOf}
+use Rattle.rows.specs.Table.{table, query, queryOf, QueryTable, TreeTable, tableTree, tableShape, grown, childrenOf, leftOf}
 use Rattle.rows.proofs.Table.{live-below}
 use Rattle.order.proofs.QueryTable.{table-tree, table-of-tree}
 use Rattle.order.proofs.RowsTable.{rows-tree, rows-table, rows-first}
-use Rattle.onto.specs.Left.{nodes}
-use Rattle.fold.specs.Kept.{RowsFolded, RowsKept}
-use Rattle.tree.specs.Tables.{Ends, Sortable}
+use Rattle.onto.specs.Left.{Nodes}
+use Rattle.fold.specs.Kept.{Whole, RowsFolded, Remains, RowsKept}
+use Rattle.fold.proofs.Whole.{whole-kept}
+use Rattle.tree.specs.Tables.{Ends, RowsLeft, Sortable}
 
 -- ------------------------------------------------------------------ marks
 mark-small : (a b : Bool) → markCode a b ≤ 3
@@ -100,9 +101,20 @@ module _ (code mark kids span up : List ℕ) (n : ℕ) (R : Rows code mark kids 
   pub rows-sortable : Sortable up code mark n
   rows-sortable = record { table = rows-table code mark kids span up n R; first = rows-first code mark kids span up n R }
 
--- what folding left, moved together, is the minimal tree but for the order of brothers
-pub folded-least : (code mark span : List ℕ) (n : ℕ) (left code′ mark′ parent : List ℕ) (m : ℕ) → RowsFolded (nodes code mark span) n left
-    → RowsKept code left span n code′ mark′ parent m
-    → ordered (tableTree parent code′ mark′ m) ≡ ordered (minimal (treeRows code mark span n))
-folded-least code mark span n left code′ mark′ parent m F K =
-    ap ordered (rows-tree code′ mark′ (K .kids) (K .spans) parent m (K .rows) ∙ K .tree) ∙ F .least
+module _ {folded : Bool} where
+  pub left-folded : {t : Nodes} {n : ℕ} {mark : List ℕ} → folded ≡ true → RowsFolded t n mark → RowsLeft folded (t .code) (t .mark) (t .span) n mark
+  left-folded e F = rw e (record { tree = F .least; only = F .only; long = F .long })
+
+  pub left-whole : (code : List ℕ) {mark span : List ℕ} {n : ℕ} → folded ≡ false → Whole mark span n → RowsLeft folded code mark span n mark
+  left-whole code e W = rw e (record { tree = ap ordered (whole-kept code W); only = λ j. inl refl; long = refl })
+
+module _ {folded : Bool} {code was kids span up : List ℕ} {n : ℕ} {mark : List ℕ} (R : Rows code was kids span up n)
+    (L : RowsLeft folded code was span n mark) where
+  pub left-remains : Remains code mark span up n
+  left-remains = record { kids = kids; was = was; rows = R; only = L .only; long = L .long }
+
+  -- moved together they are that tree but for the order of brothers
+  pub left-tree : {code′ mark′ parent : List ℕ} {m : ℕ} → RowsKept code mark span n code′ mark′ parent m
+      → ordered (tableTree parent code′ mark′ m) ≡ ordered (leftOf folded (treeRows code was span n))
+  left-tree {code′} {mark′} {parent} {m} K =
+      ap ordered (rows-tree code′ mark′ (K .kids) (K .spans) parent m (K .rows) ∙ K .tree) ∙ L .tree

@@ -11,12 +11,12 @@ ghost use Prim.Native.Nat.{ℕ, suc, _<_, _≤_};
 ghost use lib.ListN.{length, getD};
 ghost use Rattle.meaning.specs.Limits.{mostNodes};
 ghost use Rattle.meaning.specs.Tree.{plainTree};
-ghost use Rattle.meaning.specs.Folding.{minimal};
-ghost use Rattle.meaning.specs.Image.{ordered, minimalTree};
+ghost use Rattle.meaning.specs.Image.{ordered};
 ghost use Rattle.rows.specs.Rows.{Rows, Room, treeRows};
-ghost use Rattle.rows.specs.Table.{QueryTable, queryOf, tableTree};
+ghost use Rattle.rows.specs.Table.{QueryTable, queryOf, tableTree, leftOf, imageTree};
 ghost use Rattle.order.specs.Contract.{Lent};
-ghost use Rattle.tree.specs.Tables.{Ends, RowsAre, Sortable};
+ghost use Rattle.fold.specs.Kept.{Whole};
+ghost use Rattle.tree.specs.Tables.{Ends, RowsAre, RowsLeft, Sortable};
 
 // Marks s and d among the first n nodes, which bear no mark: bit 0 is s, bit 1 is d.
 fn mark_ends(mark: &mut Marks, n: usize, s: usize, d: usize)
@@ -104,8 +104,28 @@ fn ordered_rows(
     );
 }
 
-// Folds n rows to the end and moves those that are left together, as a table.
-fn folded_rows(
+// Folds n rows to the end, if they are to be folded.
+fn settle_rows(
+    folded: bool,
+    code: &Codes,
+    mark: &mut Marks,
+    span: &Links,
+    n: usize,
+    child: &mut Starts,
+)
+    requires { ⌜ Whole (now mark) (now span) n × (length (now child) ≡ suc mostNodes) ⌝ }
+    ensures { λ _. ⌜ RowsLeft folded (now (code .entry)) (now (mark .entry)) (now (span .entry)) n (now (mark .exit))
+        × (length (now (child .exit)) ≡ suc mostNodes) ⌝ }
+{
+    if !folded {
+        return;
+    }
+    fold::fold_rows(code, mark, span, n, child);
+}
+
+// The rows that are left of n rows, all or those that folding to the end leaves, moved together as a table.
+fn left_rows(
+    folded: bool,
     code: &mut Codes,
     mark: &mut Marks,
     span: &Links,
@@ -119,67 +139,16 @@ fn folded_rows(
         × (length (now child) ≡ suc mostNodes) × (length (now parent) ≡ mostNodes) × (length (now moved) ≡ mostNodes) ⌝ }
     ensures { λ r. ⌜ Sortable (now (parent .exit)) (now (code .exit)) (now (mark .exit)) r
         × (ordered (tableTree (now (parent .exit)) (now (code .exit)) (now (mark .exit)) r)
-        ≡ ordered (minimal (treeRows (now (code .entry)) (now (mark .entry)) (now (span .entry)) n)))
+        ≡ ordered (leftOf folded (treeRows (now (code .entry)) (now (mark .entry)) (now (span .entry)) n)))
         × (length (now (child .exit)) ≡ suc mostNodes) × (length (now (moved .exit)) ≡ mostNodes) ⌝ }
 {
-    fold::fold_rows(code, mark, span, n, child);
+    settle_rows(folded, code, mark, span, n, child);
     fold::keep_rows(code, mark, span, up, n, parent, moved)
 }
 
-// The plain tree: laid out, then put in order.
-pub fn plain_rows(
-    parent: &[u16],
-    label: &[u32],
-    n: usize,
-    s: usize,
-    d: usize,
-    first: &mut Starts,
-    next: &mut Starts,
-    code: &mut Codes,
-    mark: &mut Marks,
-    kids: &mut Links,
-    span: &mut Links,
-    up: &mut Links,
-)
-    requires { ⌜ QueryTable (now parent) (now label) n s d × Lent (now first) (now next)
-        × Room (now code) (now mark) (now kids) (now span) (now up) ⌝ }
-    ensures { λ _. ⌜ RowsAre (ordered (plainTree (queryOf (now (parent .entry)) (now (label .entry)) n s d)))
-        (now (code .exit)) (now (mark .exit)) (now (kids .exit)) (now (span .exit)) (now (up .exit)) n ⌝ }
-{
-    let mut above = [0u16; MOST_NODES];
-    let mut labels = [0u32; MOST_NODES];
-    let mut marks = [0u8; MOST_NODES];
-    laid_rows(
-        parent,
-        label,
-        n,
-        s,
-        d,
-        first,
-        next,
-        &mut labels,
-        &mut marks,
-        kids,
-        span,
-        &mut above,
-    );
-    ordered_rows(
-        &above,
-        &labels,
-        &marks,
-        n,
-        first,
-        next,
-        code,
-        mark,
-        kids,
-        span,
-        up,
-    );
-}
-
-// The minimal tree: laid out, folded to the end, then put in order. Returns how many rows it has.
-pub fn minimal_rows(
+// The plain tree, or the minimal tree: laid out, folded to the end if it is to be, then put in order. Returns how many rows it has.
+pub fn query_rows(
+    folded: bool,
     parent: &[u16],
     label: &[u32],
     n: usize,
@@ -195,7 +164,7 @@ pub fn minimal_rows(
 ) -> usize
     requires { ⌜ QueryTable (now parent) (now label) n s d × Lent (now first) (now next)
         × Room (now code) (now mark) (now kids) (now span) (now up) ⌝ }
-    ensures { λ r. ⌜ RowsAre (minimalTree (queryOf (now (parent .entry)) (now (label .entry)) n s d))
+    ensures { λ r. ⌜ RowsAre (imageTree folded (queryOf (now (parent .entry)) (now (label .entry)) n s d))
         (now (code .exit)) (now (mark .exit)) (now (kids .exit)) (now (span .exit)) (now (up .exit)) r ⌝ }
 {
     let mut above = [0u16; MOST_NODES];
@@ -215,7 +184,17 @@ pub fn minimal_rows(
         span,
         up,
     );
-    let m = folded_rows(&mut labels, &mut marks, span, up, n, next, &mut above, kids);
+    let m = left_rows(
+        folded,
+        &mut labels,
+        &mut marks,
+        span,
+        up,
+        n,
+        next,
+        &mut above,
+        kids,
+    );
     ordered_rows(
         &above,
         &labels,

@@ -14,14 +14,14 @@ tell-spec =
     (λ c κs.
     let r = c .before .before .before .before .before in
     let (acc, N) = r .before .before .before .before .before .before .before .before .before .before .pre in
-    (record { kids = _; query = query-rows Minimal (r .minimal-rows .ensures) acc }, N))
+    (record { kids = _; query = query-rows Minimal (r .word-rows .ensures) acc }, N))
     (λ c. search needs)
     (λ c.
     let r = c .before .before .before .before .before .before .before .before .before in
     let (acc, N) = r .before .before .before .before .before .before .before .before .before .before .pre in
-    selects-told _ (acc .1) N (r .minimal-rows .ensures .tree (acc .0) (acc .1)) (rw (c .if1 .taken) at (c .before .before .before .taken .ensures)))
+    selects-told _ (acc .1) N (r .word-rows .ensures .tree (acc .0) (acc .1)) (rw (c .if1 .taken) at (c .before .before .before .taken .ensures)))
     (λ c. search needs)
     (λ c.
     let r = c .before .before .before .before .before .before .before .before .before in
     let (acc, N) = r .before .before .before .before .before .before .before .before .before .before .pre in
-    selects-told _ (acc .1) N (r .minimal-rows .ensures .tree (acc .0) (acc .1)) (rw (c .if1 .left) at (c .before .before .before .taken .ensures))))
+    selects-told _ (acc .1) N (r .word-rows .ensures .tree (acc .0) (acc .1)) (rw (c .if1 .left) at (c .before .before .before .taken .ensures))))
