@@ -8,8 +8,7 @@ use native.Mathlib.Omega.{arith}
 use Rattle.meaning.specs.Expression.{Expr, pairs}
 use Rattle.meaning.specs.TreeQuery.{Query, TreeQuery}
 use Rattle.meaning.specs.Gluing.{plain}
-use Rattle.meaning.specs.Tree.{treeOf, plainTree, size}
-use Rattle.meaning.specs.Image.{ordered, minimalTree}
+use Rattle.meaning.specs.Tree.{treeOf, size}
 use Rattle.meaning.specs.Folding.{minimal}
 use Rattle.meaning.specs.Word.{Outcome, refused, answered, readWord}
 use Rattle.theory.proofs.Look.{never}
