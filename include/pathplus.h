@@ -64,8 +64,8 @@
  *
  * Stack. It is bounded by the limits below. The deepest that was measured, by
  * `bench/run stack` over words made to be deep, is the normal form of one branch
- * of 255 steps (the word 02, 254 times 02 04, 05): 54,752 bytes on x86-64, 50,720
- * on aarch64. The other calls took less than 44 KB. This is measured, not proved.
+ * of 255 steps (the word 02, 254 times 02 04, 05): 35,744 bytes on x86-64, 35,760
+ * on aarch64. The other calls took less than 29 KB. This is measured, not proved.
  */
 #ifndef PATHPLUS_H
 #define PATHPLUS_H

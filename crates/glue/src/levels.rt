@@ -66,7 +66,8 @@ fn glue_level(
     y: usize,
 ) -> Level
     requires { ⌜ RowsFit n (now parent) (now label) × (x < n) × (y < n) × (x ≡ y → ⊥) × Safe from (table n (now parent) (now label)) x y ⌝ }
-    ensures { λ r. ⌜ Leads from n x y (table n (now (parent .entry)) (now (label .entry))) r (table (n - 1) (now (parent .exit)) (now (label .exit))) ⌝ }
+    ensures { λ r. ⌜ Leads from n x y (table n (now (parent .entry)) (now (label .entry))) r
+        (table (n - 1) (now (parent .exit)) (now (label .exit))) ⌝ }
 {
     let u = parent[x];
     let v = parent[y];

@@ -121,7 +121,8 @@ pub fn merge_rows(
 )
     requires { ⌜ (from ≤ y) × (y < n) × (x < n) × (x ≡ y → ⊥) × (n ≤ poolRows) × (n ≤ length (now parent)) × (n ≤ length (now label)) ⌝ }
     requires { ⌜ ((i p : ℕ) → i < from → parentOf (getD (now parent) i 0) ≡ some p → p < from) ⌝ }
-    ensures { λ _. ⌜ table (n - 1) (now (parent .exit)) (now (label .exit)) ≡ merged (table n (now (parent .entry)) (now (label .entry))) x y (parentOf u) (labOf l) ⌝ }
+    ensures { λ _. ⌜ table (n - 1) (now (parent .exit)) (now (label .exit))
+        ≡ merged (table n (now (parent .entry)) (now (label .entry))) x y (parentOf u) (labOf l) ⌝ }
 {
     let last = n - 1;
     let a = x as u16;

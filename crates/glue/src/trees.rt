@@ -1,4 +1,5 @@
-// Two tree queries glued to one: "between two trees until one of them has no further ancestor, inside one tree until the two ancestors are the same node".
+// Two tree queries glued to one: "between two trees until one of them has no further ancestor, inside one tree until the two ancestors are the
+// same node".
 use crate::levels::Joined;
 use crate::levels::glue_rows;
 use rows::NO_ROW;
@@ -68,7 +69,8 @@ fn glue_across(parent: &mut [u16], label: &mut [u32], p: Built, q: Built, both: 
     requires { ⌜ TreeQuery (queryFrom 0 p (now parent) (now label)) × TreeQuery (queryFrom (p .rows) q (now parent) (now label)) ⌝ }
     ensures { λ r. ⌜ (let A = table (p .rows) (now (parent .entry)) (now (label .entry)) in
         let B = table (q .rows) (drop (p .rows) (now (parent .entry))) (drop (p .rows) (now (label .entry))) in
-        joinedOf r (now (parent .exit)) (now (label .exit)) ≡ marked (across A (cond both (p .s) (p .d)) B (q .s)) (p .s) (p .d) (length A + q .d)) ⌝ }
+        joinedOf r (now (parent .exit)) (now (label .exit))
+        ≡ marked (across A (cond both (p .s) (p .d)) B (q .s)) (p .s) (p .d) (length A + q .d)) ⌝ }
 {
     let na = p.rows;
     shift_rows(parent, na, q.rows);

@@ -74,7 +74,8 @@ fn fits_left(code: &Codes, mark: &Marks, code2: &Codes, mark2: &Marks, a: usize,
     fits(code, mark, code2, mark2, a, b)
 }
 
-// Row a folds onto some child of row v, whose rows end at `end`. A child that it does not fit costs no call, and none does where a has nothing below it.
+// Row a folds onto some child of row v, whose rows end at `end`. A child that it does not fit costs no call, and none does where a has nothing
+// below it.
 fn lands(
     code: &Codes,
     mark: &Marks,

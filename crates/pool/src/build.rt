@@ -67,7 +67,8 @@ fn apply_signs(
 }
 
 // The word is accepted, and the caller lends the rows of the pool, a mark of each kind for each operand that may be pending, and one start of an
-// operand more; what they hold before does not matter. Afterwards the first r.rows rows are the plain tree query, with its marks in r; no rows: empty.
+// operand more; what they hold before does not matter. Afterwards the first r.rows rows are the plain tree query, with its marks in r; no rows:
+// empty.
 pub fn build(
     word: &[u8],
     parent: &mut [u16],
@@ -79,7 +80,8 @@ pub fn build(
     requires { ⌜ ((e : Expr) × (readWord (now word) ≡ answered e)) ⌝ }
     requires { ⌜ (poolRows ≤ length (now parent)) × (poolRows ≤ length (now label))
         × (mostPending < length (now first)) × (mostPending ≤ length (now s)) × (mostPending ≤ length (now d)) ⌝ }
-    ensures { λ r. ⌜ andThen (readWord (now (word .entry))) (λ e. answered (plain e)) ≡ answered (builtOf r (now (parent .exit)) (now (label .exit))) ⌝ }
+    ensures { λ r. ⌜ andThen (readWord (now (word .entry))) (λ e. answered (plain e))
+        ≡ answered (builtOf r (now (parent .exit)) (now (label .exit))) ⌝ }
 {
     first[0] = 0;
     apply_signs(word, parent, label, first, s, d);

@@ -92,7 +92,8 @@ fn shape(k: usize, sign: u32) -> Latest
 
 // A new operand: a top and a child of it are written, and the sign tells how many of the two it has.
 fn lay(parent: &mut [u16], label: &mut [u32], first: &[u16], pending: usize, sign: u32) -> Latest
-    requires { ⌜ (pending < length (now first)) × (getD (now first) pending 0 + 1 < poolRows) × (poolRows ≤ length (now parent)) × (poolRows ≤ length (now label)) ⌝ }
+    requires { ⌜ (pending < length (now first)) × (getD (now first) pending 0 + 1 < poolRows)
+        × (poolRows ≤ length (now parent)) × (poolRows ≤ length (now label)) ⌝ }
     ensures { λ r. ⌜ ((e : Expr) → signOf sign ≡ operand e → Made pending (getD (now (first .entry)) pending 0)
         (now (parent .entry)) (now (label .entry)) r (now (parent .exit)) (now (label .exit)) (plain e)) ⌝ }
 {
@@ -199,7 +200,8 @@ pub fn make(
     }
 }
 
-// Operand l.at is l, and it is the latest. Where there are no rows, its marks do not matter, and may be any numbers. Gives the number of operands that are pending then.
+// Operand l.at is l, and it is the latest. Where there are no rows, its marks do not matter, and may be any numbers. Gives the number of operands
+// that are pending then.
 pub fn put_latest(first: &mut [u16], s: &mut [u16], d: &mut [u16], l: Latest) -> usize
     requires { ⌜ PutFits l (now first) (now s) (now d) ⌝ }
     ensures { λ r. ⌜ (r ≡ l .at + 1) × (now (first .exit) ≡ set (now (first .entry)) (l .at + 1) (getD (now (first .entry)) (l .at) 0 + l .rows))
