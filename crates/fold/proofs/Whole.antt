@@ -4,19 +4,19 @@ use mathlib.Core.Path.{_≡_, refl, sym, subst, _∙_}
 use mathlib.Core.Logic.{_⊎_, inl, inr}
 use mathlib.Core.Bool.{Bool, true, false}
 use mathlib.Core.List.{List}
-use Prim.Native.Nat.{ℕ, suc, _+_, _/_, _%_, _^_, _≤_, _<_}
+use Prim.Native.Nat.{ℕ, _+_, _/_, _%_, _^_, _≤_, _<_}
 use native.Mathlib.Omega.{arith}
 use native.Mathlib.Decide.{ℕ-discrete}
 use lib.ListN.{length, getD}
-use Rattle.meaning.specs.Tree.{Forest, bare, tree, Tag, size}
+use Rattle.meaning.specs.Tree.{Forest, bare, tree, Tag}
 use Rattle.meaning.specs.Folding.{Reduced, minimal}
 use Rattle.theory.proofs.Folding.{Equal, equal-trans, equal-tree}
 use Rattle.theory.proofs.Unique.{minimal-same}
 use Rattle.theory.proofs.Records.{same-ordered}
 use Rattle.rows.specs.Rows.{below, shape, mapT, treeRows, Holds, width, Rows}
-use Rattle.rows.proofs.Rows.{size-holds, Opens, row-opens}
+use Rattle.rows.proofs.Rows.{Opens, row-opens}
 use Rattle.bits.specs.Bits.{bitOf}
-use Rattle.onto.specs.Left.{Nodes, nodes, marked, tagOf, goneBit, goneAt, Gone, Brother, left, leftBelow, keptTree}
+use Rattle.onto.specs.Left.{Nodes, marked, tagOf, goneBit, goneAt, Gone, Brother, left, leftBelow, keptTree}
 use Rattle.onto.specs.Onto.{Stands}
 use Rattle.onto.proofs.Brothers.{brother-range, brother-apart}
 use Rattle.onto.proofs.Left.{not-both, left-bare, left-here, left-away, left-ind}
@@ -220,21 +220,3 @@ rows-whole R = record {
   laid = R .laid;
   single = R .single;
 }
-
--- where nothing has gone all is left
-left-all : (t : Nodes) (u e : ℕ) (F : Forest ℕ) → Holds (t .span) u e F → ((i : ℕ) → u ≤ i → i < e → goneAt (t .mark) i ≡ false)
-    → left t F ≡ mapT (tagOf t) F
-unfolding mapT
-left-all t u e bare h f = left-bare t
-left-all t u e (tree i k r) h f =
-    let s = size-holds (t .span) (suc i + size k) e r (h .3) in
-    let z = h .0 in
-    rw (
-      left-here t i k r (f i (omega arith) (omega arith)),
-      left-all t (suc i) (suc i + size k) k (h .2) (λ j a b. f j (omega arith) (omega arith)),
-      left-all t (suc i + size k) e r (h .3) (λ j a b. f j (omega arith) b),
-    )
-
-pub whole-kept : (code : List ℕ) {mark span : List ℕ} {n : ℕ} → Whole mark span n → keptTree (nodes code mark span) n ≡ treeRows code mark span n
-unfolding treeRows
-whole-kept code {mark} {span} {n} R = left-all (nodes code mark span) 0 n (shape span n) (R .laid) (λ i l m. R .there i m)

@@ -1,7 +1,6 @@
 -- A table that is a tree query, marked at s and d, may be laid out, and its tree is the plain tree of the query.
 -- Rows that are a tree may be folded and put in order.
 use mathlib.Core.Path.{_≡_, refl, sym, ap, subst, _∙_}
-use mathlib.Core.Logic.{inl}
 use mathlib.Core.Bool.{Bool, true, false}
 use mathlib.Core.List.{List}
 use Prim.Native.Nat.{ℕ, zero, suc, _≤_, _<_}
@@ -20,10 +19,9 @@ use Rattle.rows.specs.Table.{table, query, queryOf, QueryTable, TreeTable, tabl
 use Rattle.rows.proofs.Table.{live-below}
 use Rattle.order.proofs.QueryTable.{table-tree, table-of-tree}
 use Rattle.order.proofs.RowsTable.{rows-tree, rows-table, rows-first}
-use Rattle.onto.specs.Left.{Nodes}
-use Rattle.fold.specs.Kept.{Whole, RowsFolded, Remains, RowsKept}
-use Rattle.fold.proofs.Whole.{whole-kept}
-use Rattle.tree.specs.Tables.{Ends, RowsLeft, Sortable}
+use Rattle.onto.specs.Left.{nodes}
+use Rattle.fold.specs.Kept.{RowsFolded, Remains, RowsKept}
+use Rattle.tree.specs.Tables.{Ends, Sortable}
 
 -- ------------------------------------------------------------------ marks
 mark-small : (a b : Bool) → markCode a b ≤ 3
@@ -101,20 +99,17 @@ module _ (code mark kids span up : List ℕ) (n : ℕ) (R : Rows code mark kids 
   pub rows-sortable : Sortable up code mark n
   rows-sortable = record { table = rows-table code mark kids span up n R; first = rows-first code mark kids span up n R }
 
-module _ {folded : Bool} where
-  pub left-folded : {t : Nodes} {n : ℕ} {mark : List ℕ} → folded ≡ true → RowsFolded t n mark → RowsLeft folded (t .code) (t .mark) (t .span) n mark
-  left-folded e F = rw e (record { tree = F .least; only = F .only; long = F .long })
+module _ {code mark kids span up : List ℕ} {n : ℕ} (R : Rows code mark kids span up n) where
+  -- all rows are left
+  pub whole-tree : (folded : Bool) → folded ≡ false → ordered (tableTree up code mark n) ≡ ordered (leftOf folded (treeRows code mark span n))
+  whole-tree folded e = rw e (ap ordered (rows-tree code mark kids span up n R))
 
-  pub left-whole : (code : List ℕ) {mark span : List ℕ} {n : ℕ} → folded ≡ false → Whole mark span n → RowsLeft folded code mark span n mark
-  left-whole code e W = rw e (record { tree = ap ordered (whole-kept code W); only = λ j. inl refl; long = refl })
+  module _ {mark′ : List ℕ} (F : RowsFolded (nodes code mark span) n mark′) where
+    pub folded-remains : Remains code mark′ span up n
+    folded-remains = record { kids = kids; was = mark; rows = R; only = F .only; long = F .long }
 
-module _ {folded : Bool} {code was kids span up : List ℕ} {n : ℕ} {mark : List ℕ} (R : Rows code was kids span up n)
-    (L : RowsLeft folded code was span n mark) where
-  pub left-remains : Remains code mark span up n
-  left-remains = record { kids = kids; was = was; rows = R; only = L .only; long = L .long }
-
-  -- moved together they are that tree but for the order of brothers
-  pub left-tree : {code′ mark′ parent : List ℕ} {m : ℕ} → RowsKept code mark span n code′ mark′ parent m
-      → ordered (tableTree parent code′ mark′ m) ≡ ordered (leftOf folded (treeRows code was span n))
-  left-tree {code′} {mark′} {parent} {m} K =
-      ap ordered (rows-tree code′ mark′ (K .kids) (K .spans) parent m (K .rows) ∙ K .tree) ∙ L .tree
+    -- what folding left, moved together, is the minimal tree but for the order of brothers
+    pub folded-tree : (folded : Bool) → folded ≡ true → {code″ mark″ parent : List ℕ} {m : ℕ} → RowsKept code mark′ span n code″ mark″ parent m
+        → ordered (tableTree parent code″ mark″ m) ≡ ordered (leftOf folded (treeRows code mark span n))
+    folded-tree folded e {code″} {mark″} {parent} {m} K =
+        rw e (ap ordered (rows-tree code″ mark″ (K .kids) (K .spans) parent m (K .rows) ∙ K .tree) ∙ F .least)

@@ -1,17 +1,14 @@
 -- The tree of a table that is a tree query, as rows in image order: what is lent, and what the rows then are.
 use mathlib.Core.Path.{_≡_}
-use mathlib.Core.Bool.{Bool}
 use mathlib.Core.List.{List}
 use Prim.Native.Nat.{ℕ, _<_}
 use native.Mathlib.Decide.{ℕ-discrete}
-use lib.ListN.{length, getD}
+use lib.ListN.{getD}
 use Rattle.meaning.specs.Basics.{is}
 use Rattle.meaning.specs.Tree.{Forest, Tag}
-use Rattle.meaning.specs.Image.{markCode, ordered}
+use Rattle.meaning.specs.Image.{markCode}
 use Rattle.rows.specs.Rows.{Rows, Room, treeRows}
-use Rattle.rows.specs.Table.{leftOf, TreeTable, ParentsFirst}
-use Rattle.onto.specs.Left.{nodes, keptTree}
-use Rattle.fold.specs.Kept.{SomeGone}
+use Rattle.rows.specs.Table.{TreeTable, ParentsFirst}
 
 -- ------------------------------------------------------------------ what the rows then are
 -- "mark (0 none, 1 s, 2 d, 3 both)", of the first n rows
@@ -23,12 +20,6 @@ pub record RowsAre (T : Forest Tag) (code mark kids span up : List ℕ) (n : ℕ
   pub rows : Rows code mark kids span up n
   pub tree : treeRows code mark span n ≡ T
   pub room : Room code mark kids span up
-
--- `mark` says which of n rows are left, that bore the marks `was`: all, or what folding leaves
-pub record RowsLeft (folded : Bool) (code was span : List ℕ) (n : ℕ) (mark : List ℕ) : Type 0 where
-  pub tree : ordered (keptTree (nodes code mark span) n) ≡ ordered (leftOf folded (treeRows code was span n))
-  pub only : SomeGone n was mark
-  pub long : length mark ≡ length was
 
 -- the first m rows of a table are a tree, parents before their children
 pub record Sortable (parent code mark : List ℕ) (m : ℕ) : Type 0 where

@@ -15,8 +15,7 @@ ghost use Rattle.meaning.specs.Image.{ordered};
 ghost use Rattle.rows.specs.Rows.{Rows, Room, treeRows};
 ghost use Rattle.rows.specs.Table.{QueryTable, queryOf, tableTree, leftOf, imageTree};
 ghost use Rattle.order.specs.Contract.{Lent};
-ghost use Rattle.fold.specs.Kept.{Whole};
-ghost use Rattle.tree.specs.Tables.{Ends, RowsAre, RowsLeft, Sortable};
+ghost use Rattle.tree.specs.Tables.{Ends, RowsAre, Sortable};
 
 // Marks s and d among the first n nodes, which bear no mark: bit 0 is s, bit 1 is d.
 fn mark_ends(mark: &mut Marks, n: usize, s: usize, d: usize)
@@ -104,25 +103,6 @@ fn ordered_rows(
     );
 }
 
-// Folds n rows to the end, if they are to be folded.
-fn settle_rows(
-    folded: bool,
-    code: &Codes,
-    mark: &mut Marks,
-    span: &Links,
-    n: usize,
-    child: &mut Starts,
-)
-    requires { ⌜ Whole (now mark) (now span) n × (length (now child) ≡ suc mostNodes) ⌝ }
-    ensures { λ _. ⌜ RowsLeft folded (now (code .entry)) (now (mark .entry)) (now (span .entry)) n (now (mark .exit))
-        × (length (now (child .exit)) ≡ suc mostNodes) ⌝ }
-{
-    if !folded {
-        return;
-    }
-    fold::fold_rows(code, mark, span, n, child);
-}
-
 // The rows that are left of n rows, all or those that folding to the end leaves, moved together as a table.
 fn left_rows(
     folded: bool,
@@ -142,7 +122,11 @@ fn left_rows(
         ≡ ordered (leftOf folded (treeRows (now (code .entry)) (now (mark .entry)) (now (span .entry)) n)))
         × (length (now (child .exit)) ≡ suc mostNodes) × (length (now (moved .exit)) ≡ mostNodes) ⌝ }
 {
-    settle_rows(folded, code, mark, span, n, child);
+    if !folded {
+        *parent = *up;
+        return n;
+    }
+    fold::fold_rows(code, mark, span, n, child);
     fold::keep_rows(code, mark, span, up, n, parent, moved)
 }
 
