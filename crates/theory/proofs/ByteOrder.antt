@@ -65,7 +65,7 @@ insert_front : (x y : List ℕ) (l : List (List ℕ)) → insert x l ≡ x ∷ l
 insert_front x y l ex ey = go (dec_l x y) (dec_l y x)
   where
     go : Dec (LeL x y) → Dec (LeL y x) → insert x (y ∷ l) ≡ insert y (x ∷ l)
-    go (yes p) (yes q) = rw (le_antisym x y p q)
+    go (yes p) (yes q) = cc (le_antisym x y p q)
     go (yes p) (no n) = cc (insert_before x y l p, insert_behind y x l n)
     go (no n) (yes q) = cc (insert_behind x y l n, insert_before y x l q)
     go (no n) (no m) = absurd (m (not_le x y n))

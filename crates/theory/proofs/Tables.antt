@@ -154,13 +154,13 @@ kids_entry : (f : Forest Tag) (p : Option ℕ) (b : ℕ) → Out p b (size f) �
     → (n : ℕ) → n ≡ b + i → kids (some n) (entries f p b) b ≡ tops x.kids (suc n)
 kids_entry bare p b out i x e n en = never cc
 kids_entry (tree a k r) p b out zero x e n en =
-    let z : n ≡ b = omega arith in
+    let z : b ≡ n = omega arith in
     let q : x.kids ≡ k = cc in
-    rw (z, q)
+    subst (λ (m : ℕ). kids (some m) (entries (tree a k r) p b) b ≡ tops x.kids (suc m)) z (rw q
     (kids_tree (some b) a k r p b false (tops k (suc b)) [] (link_other (some b) p (λ e'. out b (omega arith) (omega arith) (sym e')))
     (kids_tops k (some b) (suc b) (out_number b (suc b) (size k) (λ i lo hi e'. omega arith)))
     (kids_none r p (suc b + size k) (some b) (λ e'. out b (omega arith) (omega arith) (sym e')) (out_number b (suc b + size k) (size r) (λ i lo hi e'. omega arith)))
-    ∙ append-nil (tops k (suc b)))
+    ∙ append-nil (tops k (suc b))))
 kids_entry (tree a k r) p b out (suc i) x e n en =
     go (kids_entry k (some b) (suc b) (out_number b (suc b) (size k) (λ i lo hi e'. omega arith)) i x)
     (λ j. kids_entry r p (suc b + size k) (λ i lo hi. out i (omega arith) (omega arith)) j x) (entry_later a k r p b i x e)
