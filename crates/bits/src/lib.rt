@@ -1,5 +1,7 @@
 // Rows of bits in lent bytes: bit v of row u is "bit v mod 8 of byte 128u + v div 8 (lowest bit is 0)".
 // A match table has 256 such rows, a row of its own has one; both are read and written by the same functions.
+#![tactic(auto)]
+
 ghost use Rattle.std.specs.Prelude.{◌≡◌, ◌&&◌, ℕ, ◌+◌, ◌*◌, ◌≤◌, ◌<◌, length, get_or, eqb};
 ghost use Rattle.meaning.specs.Matching.{bit_at};
 ghost use Rattle.bits.specs.Bits.{bit_of, row_clear, BitKept, BitSet, Met, Cleared};

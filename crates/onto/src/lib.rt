@@ -1,6 +1,7 @@
 // The folding test: "u folds onto v when u's label is a wildcard or equals v's, u's marks are among v's, and every child of u folds onto some child
 // of v", over rows in image order of which some have gone. Row u stands in the first of two tables and row v in the second: brothers of one tree are
 // held against each other by lending its table twice.
+#![tactic(auto)]
 ghost use Rattle.std.specs.Prelude.{◌≡◌, ◌+◌, ◌<◌, get_or};
 ghost use Rattle.meaning.specs.Limits.{most_nodes};
 ghost use Rattle.meaning.specs.Folding.{LabLe, TagLe};

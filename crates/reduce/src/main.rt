@@ -1,5 +1,6 @@
 // The program: "It reads up to 4,097 bytes of standard input as one word" and writes the text of it. A byte past the longest word is enough
 // to refuse.
+#![tactic(auto)]
 use libc::{STDIN_FILENO, STDOUT_FILENO};
 use report::LONGEST_TEXT;
 

@@ -1,5 +1,6 @@
 // Goes through a corpus of the second implementation on standard input and makes every call in it, as C makes it. A call that differs has a
 // line. So has a case that is damaged, and it is the last. The last line counts the cases and the calls that were gone through.
+#![tactic(auto)]
 mod call;
 mod input;
 

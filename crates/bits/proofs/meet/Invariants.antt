@@ -1,0 +1,14 @@
+-- The first i bytes of row u keep the bits whose flags are 1.
+use borrow.Author.Rules.{rules}
+use mathlib.Core.Path.{◌≡◌}
+use Prim.Native.Nat.{◌*◌, ◌-◌, ◌≤◌}
+use native.Mathlib.Omega.{arith}
+use Rattle.bits.specs.Bits.{Met}
+use Rattle.bits.proofs.Bits.{met_none, met_more}
+use Rattle.bits.proofs.meet.Given as goal
+
+abbrev pub invariant-loop-i : goal.invariant-loop-i
+invariant-loop-i l = (l.i ≤ l.bytes) × Met l.initial.w l.u l.flags (8 * l.i) l.w
+
+abbrev pub decreases-loop-i : goal.decreases-loop-i
+decreases-loop-i l = l.bytes - l.i
