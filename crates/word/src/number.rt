@@ -7,7 +7,7 @@ ghost use Rattle.word.specs.Answer.{got_of};
 use crate::sign::LARGEST_SIGN;
 
 // A number and the place after it, or none that can be read.
-#[derive(Drop)]
+#[derive(Clone, Copy)]
 pub enum Read {
     Number { value: u32, next: usize },
     Broken,

@@ -14,14 +14,14 @@ use limits::refusal::{
 };
 
 // The pending operands and the steps so far, counted.
-#[derive(Drop)]
+#[derive(Clone, Copy)]
 struct Counts {
     pending: usize,
     steps: usize,
 }
 
 // The signs so far leave these counts, or one of them is refused with a number and its place.
-#[derive(Drop)]
+#[derive(Clone, Copy)]
 enum Turn {
     Next(Counts),
     Stop(u32, usize),
