@@ -22,7 +22,7 @@ loop-next-init c = reading_start _ _
 pub returns-then-weight-gt1 : goal.returns-then-weight-gt1
 returns-then-weight-gt1 c =
     reading_zero _ _ _ _ _ _ c.loop-next.invariant _ c.wide-group.ensures.0
-    c.loop-next-test.true c.else-group-eq0??.true (ltb-true _ _ c.if-weight-gt1.true)
+    c.loop-next-test.true c.if-group-eq0.true (ltb-true _ _ c.if-weight-gt1.true)
 
 pub overflow_mul-value : goal.overflow_mul-value
 overflow_mul-value c = omega (arith, product c.loop-next.invariant c.wide-group.ensures.1)
@@ -34,13 +34,13 @@ pub returns-then-most-value : goal.returns-then-most-value
 returns-then-most-value c =
     reading_above _ _ _ _ _ _ c.loop-next.invariant _ c.wide-group.ensures.0
     c.loop-next-test.true c.if-group-lt-GROUP.true
-    (⊎_elim (λ p. inl (ltb-false _ _ p.1.left)) (λ p. inr p.left) c.else-group-eq0??.branch) c.if-most-value.true
+    (⊎_elim (λ p. inl (ltb-false _ _ p.1.left)) (λ p. inr p.left) c.else-group-eq0.branch) c.if-most-value.true
 
 pub returns-then-group-lt-GROUP : goal.returns-then-group-lt-GROUP
 returns-then-group-lt-GROUP c =
     reading_last _ _ _ _ _ _ c.loop-next.invariant _ c.wide-group.ensures.0
     c.loop-next-test.true c.if-group-lt-GROUP.true
-    (⊎_elim (λ p. inl (ltb-false _ _ p.1.left)) (λ p. inr p.left) c.else-group-eq0??.branch) c.if-most-value.false
+    (⊎_elim (λ p. inl (ltb-false _ _ p.1.left)) (λ p. inr p.left) c.else-group-eq0.branch) c.if-most-value.false
 
 pub overflow_mul-value-in-loop-next : goal.overflow_mul-value-in-loop-next
 overflow_mul-value-in-loop-next c = omega (arith, product c.loop-next.invariant {b = c.wide-group.result - 128} (omega arith))

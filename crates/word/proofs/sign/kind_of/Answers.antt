@@ -16,7 +16,7 @@ use Rattle.word.proofs.sign.kind_of.Goals as goal
 
 pub returns-in-4 : goal.returns-in-4
 unfolding kind_of sign_of is_step
-returns-in-4 c = kind_of_two 4 7 _ refl refl c.in-4??.keys1
+returns-in-4 c = kind_of_two 4 7 _ refl refl c.in-4.keys1
 
 pub returns-in-0 : goal.returns-in-0
 unfolding kind_of sign_of is_step
@@ -27,13 +27,13 @@ unfolding kind_of sign_of is_step
 returns-in-2 c = kind_of_two 2 3 _ refl refl (one_of_two 2 _ c.if-sign-lt2.false c.if-sign-lt4.true)
 
 pub returns-in_default : goal.returns-in_default
-returns-in_default c = kind_label _ (omega (arith, (none_of_two c.in-4??.rest.0.1).1, c.in-4??.rest.1))
+returns-in_default c = kind_label _ (omega (arith, (none_of_two c.in_default-1.rest.0.1).1, c.in_default-1.rest.1))
 
 pub returns-in-5 : goal.returns-in-5
 unfolding kind_of sign_of is_step
-returns-in-5 c = rw c.in-4??.keys2
+returns-in-5 c = rw c.in-5.keys2
 
 pub returns-in-5-2 : goal.returns-in-5-2
 unfolding kind_of sign_of is_step
 returns-in-5-2 c =
-    kind_of_two 5 6 _ refl refl (one_of_two 5 _ (omega (arith, (none_of_two c.in-4??.rest.0.1).0)) c.if-sign-lt7.true)
+    kind_of_two 5 6 _ refl refl (one_of_two 5 _ (omega (arith, (none_of_two c.in_default-1.rest.0.1).0)) c.if-sign-lt7.true)

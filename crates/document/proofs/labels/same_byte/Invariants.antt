@@ -1,0 +1,16 @@
+-- The first k bits of b are left where the nodes bear the label.
+use borrow.Author.Rules.{rules}
+use mathlib.Core.Path.{◌≡◌}
+use Prim.Native.Nat.{◌+◌, ◌-◌, ◌≤◌}
+use native.Mathlib.Omega.{arith}
+use lib.ListN.{get_or}
+use lib.Dec.{eqb}
+use Rattle.bits.specs.Bits.{Sifted}
+use Rattle.bits.proofs.Bits.{sifted_none, sifted_more}
+use Rattle.document.proofs.labels.same_byte.Given as goal
+
+abbrev pub invariant-loop-k : goal.invariant-loop-k
+invariant-loop-k l = (l.k ≤ 8) × Sifted 255 (λ j. eqb (get_or l.labels (l.from + j) 0) l.label) l.k l.b
+
+abbrev pub decreases-loop-k : goal.decreases-loop-k
+decreases-loop-k l = 8 - l.k

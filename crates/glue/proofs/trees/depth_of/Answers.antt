@@ -1,0 +1,27 @@
+-- The loop goes up edge by edge, and there are fewer edges than rows.
+use mathlib.Core.Path.{◌≡◌}
+use mathlib.Core.List.{List}
+use Prim.Native.Nat.{ℕ, ◌≤◌, ◌<◌, ◌-◌, ◌+◌}
+use native.Mathlib.Omega.{arith}
+use borrow.Author.Rules.{rules}
+use Rattle.meaning.specs.Gluing.{depth}
+use Rattle.rows.specs.Table.{table}
+use Rattle.rows.proofs.Table.{parent_some}
+use Rattle.glue.proofs.Depth.{depth_start, depth_top, depth_up, depth_out}
+use Rattle.glue.proofs.trees.depth_of.Reads as reads
+use Rattle.glue.proofs.trees.depth_of.Lts as lts
+use Rattle.rows.proofs.wide.Reads as wide-reads
+use Rattle.glue.proofs.trees.depth_of.Goals as goal
+
+pub loop-k-init : goal.loop-k-init
+loop-k-init c = let a = c.args in (omega arith, omega arith, λ L. depth_start a.n (table a.n a.parent.now L) a.x)
+
+pub returns-then-p : goal.returns-then-p
+returns-then-p c L = depth_top _ _ L _ _ _ (c.loop-k.invariant.2 L) (omega arith) (omega arith) c.if-p.true
+
+pub loop-k-preserved : goal.loop-k-preserved
+loop-k-preserved c =
+    let h = c.loop-k.invariant in let ne = c.if-p.false in let e = c.wide-i.ensures.0 in (omega arith, rw e (c.requires.2 _ _ h.1 (parent_some _ ne)), λ L. depth_up _ _ L _ _ _ (h.2 L) (omega arith) (omega arith) _ e ne)
+
+pub returns : goal.returns
+returns c = λ L. depth_out _ _ L _ _ _ (c.loop-k.invariant.2 L) (omega arith)

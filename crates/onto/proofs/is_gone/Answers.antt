@@ -1,0 +1,6 @@
+-- Row u has gone where the bit of its mark says so.
+use borrow.Author.Rules.{rules}
+use Rattle.onto.proofs.is_gone.Goals as goal
+
+pub returns : goal.returns
+returns c = c.bit_of.ensures

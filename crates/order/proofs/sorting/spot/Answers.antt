@@ -1,0 +1,35 @@
+use mathlib.Core.Path.{◌≡◌, refl, sym, ◌∙◌}
+use borrow.Author.Rules.{rules}
+use lib.ListN.{get_or}
+use Rattle.meaning.specs.Tree.{size}
+use Rattle.order.specs.Links.{Finite, forest_at, spot_of, spot_at}
+use Rattle.order.proofs.Links.{opens, goes_along, spot_end, spot_here, spot_on}
+use Rattle.order.proofs.sorting.spot.Reads as reads
+use Rattle.order.proofs.sorting.spot.Lts as lts
+use Rattle.order.proofs.sorting.goes_first.Reads as goes-first-reads
+use Rattle.order.proofs.children.row_at.Reads as row-at-reads
+use Rattle.order.proofs.sorting.spot.Goals as goal
+
+pub loop-at-init : goal.loop-at-init
+loop-at-init c = (c.requires.3, unfold spot_at in refl)
+
+pub goes_first-requires : goal.goes_first-requires
+goes_first-requires c =
+    let p = c.requires in (p.0, p.1, c.loop-at-test.true, p.2, (opens c.loop-at.invariant.0 c.loop-at-test.true).down)
+
+pub returns-then-goes_first : goal.returns-then-goes_first
+returns-then-goes_first c =
+    let v = c.loop-at.invariant in sym (v.1 ∙ spot_here _ _ _ _ _ _ _ v.0 c.loop-at-test.true c.goes_first.ensures c.if-goes_first.true)
+
+pub loop-at-smaller : goal.loop-at-smaller
+loop-at-smaller c = (goes_along c.loop-at.invariant.0 c.loop-at-test.true c.row_at-at.ensures.0).1
+
+pub loop-at-preserved : goal.loop-at-preserved
+loop-at-preserved c =
+    let v = c.loop-at.invariant in (
+      (goes_along v.0 c.loop-at-test.true c.row_at-at.ensures.0).0,
+      v.1 ∙ spot_on _ _ _ _ _ _ _ v.0 c.loop-at-test.true c.goes_first.ensures c.if-goes_first.false c.row_at-at.ensures.0,
+    )
+
+pub returns : goal.returns
+returns c = let v = c.loop-at.invariant in sym (v.1 ∙ spot_end _ _ _ _ _ _ _ c.loop-at-test.false)
