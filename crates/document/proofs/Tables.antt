@@ -22,12 +22,12 @@ pub row_label : (x p l : ℕ) → largest_label < l → false ≡ (parent_ok x p
 row_label x p l h = sym (rw (lt-leb l largest_label h) (and-false (parent_ok x p)))
 
 -- one row more is good, or it is not
-pub good_not : (good r row : Bool) → r ≡ row → not r ≡ true → false ≡ (good && row)
-good_not true r row e t = sym (not-true r t) ∙ e
+pub good_not : (good r row : Bool) → r ≡ row → r ≡ false → false ≡ (good && row)
+good_not true r row e t = sym t ∙ e
 good_not false r row e t = refl
 
-pub good_too : (good r row : Bool) → r ≡ row → not r ≡ false → good ≡ (good && row)
-good_too true r row e t = sym (not-false r t) ∙ e
+pub good_too : (good r row : Bool) → r ≡ row → r ≡ true → good ≡ (good && row)
+good_too true r row e t = sym t ∙ e
 good_too false r row e t = refl
 
 pub row_root : (x p l : ℕ) → l ≤ largest_label → x ≡ 0 → eqb p 0 ≡ (parent_ok x p && leb l largest_label)
