@@ -22,11 +22,11 @@ then : {A B C : Type 0} → A ↔ B → B ↔ C → A ↔ C
 then f g = (λ a. g.0 (f.0 a), λ c. f.1 (g.1 c))
 
 -- a test that failed, and one that was passed
-pub stuck : {A : Type 0} {r : Bool} → (r ≡ true) ↔ A → not r ≡ true → A → ⊥
-stuck {A} {r} t e a = true_false (sym (t.1 a) ∙ not-true r e)
+pub stuck : {A : Type 0} {r : Bool} → (r ≡ true) ↔ A → r ≡ false → A → ⊥
+stuck {A} {r} t e a = true_false (sym (t.1 a) ∙ e)
 
-pub stepped : {A : Type 0} {r : Bool} → (r ≡ true) ↔ A → not r ≡ false → A
-stepped {A} {r} t e = t.0 (not-false r e)
+pub stepped : {A : Type 0} {r : Bool} → (r ≡ true) ↔ A → r ≡ true → A
+stepped {A} {r} t e = t.0 e
 
 never : {A B : Type 0} → A ↔ B → (B → ⊥) → (false ≡ true) ↔ A
 never f n = (λ e. true_false (sym e), λ a. absurd (n (f.0 a)))
