@@ -1,5 +1,5 @@
-// The calls for C, declared in include/pathplus.h, and the number that each answer is given as: a refusal's number in the upper 32 bits, and its
-// place or the answer in the lower 32.
+// The calls as C has them, declared in include/pathplus.h, and the number that each answer is given as: a refusal's number in the upper 32 bits, and
+// its place or the answer in the lower 32. The crate pathplus_c exports them.
 ghost use Rattle.std.specs.Prelude.{◌≡◌, ◌+◌, ◌*◌, ◌<◌};
 ghost use Rattle.meaning.specs.Image.{plain_image, minimal_image};
 ghost use Rattle.meaning.specs.Normal.{normal_form};
@@ -51,29 +51,25 @@ fn form_number(form: Form, word: &[u8], room: &mut [u8]) -> u64
     written_number(written(form, word, room))
 }
 
-#[unsafe(no_mangle)]
-pub extern "C" fn pathplus_plain_image(word: &[u8], room: &mut [u8]) -> u64
+pub fn pathplus_plain_image(word: &[u8], room: &mut [u8]) -> u64
     ensures { WritesC plain_image word.now room.old result room.new }
 {
     form_number(Form::Plain, word, room)
 }
 
-#[unsafe(no_mangle)]
-pub extern "C" fn pathplus_minimal_image(word: &[u8], room: &mut [u8]) -> u64
+pub fn pathplus_minimal_image(word: &[u8], room: &mut [u8]) -> u64
     ensures { WritesC minimal_image word.now room.old result room.new }
 {
     form_number(Form::Minimal, word, room)
 }
 
-#[unsafe(no_mangle)]
-pub extern "C" fn pathplus_normal_form(word: &[u8], room: &mut [u8]) -> u64
+pub fn pathplus_normal_form(word: &[u8], room: &mut [u8]) -> u64
     ensures { WritesC normal_form word.now room.old result room.new }
 {
     form_number(Form::Normal, word, room)
 }
 
-#[unsafe(no_mangle)]
-pub extern "C" fn pathplus_selects(
+pub fn pathplus_selects(
     word: &[u8],
     parents: &[u32],
     labels: &[u32],
