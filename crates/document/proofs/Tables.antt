@@ -2,14 +2,14 @@
 use mathlib.Core.Path.{◌≡◌, refl, sym, ap, ◌∙◌}
 use mathlib.Core.Logic.{◌↔◌}
 use mathlib.Core.List.{List, [], ◌∷◌}
-use mathlib.Core.Bool.{Bool, true, false, not, ◌&&◌, and-true, and-false}
+use mathlib.Core.Bool.{Bool, true, false, ◌&&◌, and-true, and-false}
 use Prim.Native.Nat.{ℕ, zero, suc, ◌+◌, ◌≤◌, ◌<◌}
 use native.Mathlib.Omega.{arith}
 use native.Mathlib.Numerals.{add-one}
 use lib.ListN.{length, get_or, drop, drop_of_length-le}
 use lib.Seq.{drop-cons}
 use lib.Dec.{leb, eqb, ltb, leb-suc-suc}
-use borrow.Author.Tests.{leb-true, le-leb, lt-leb, eqb-true, not-true, not-false}
+use borrow.Author.Tests.{leb-true, le-leb, lt-leb, eqb-true}
 use Rattle.meaning.specs.Limits.{most_rows}
 use Rattle.meaning.specs.Number.{largest_label}
 use Rattle.meaning.specs.Document.{DocRow, Child, doc_row, label_of, In}

@@ -1,5 +1,6 @@
 // The table "Limits and refusal numbers": each number stands in the code once, here, under the name that it has in the definitions (meaning, Limits
 // and Number), in the header and in the second implementation. A request's refusals and limits are added here.
 #![tactic(auto)]
+
 pub mod refusal; // refusal.rt: the refusal numbers
 pub mod most; // most.rt: how long, how many and how large

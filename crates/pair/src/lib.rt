@@ -1,5 +1,6 @@
 // Whether a query selects a pair, by its match table: the ways from s and from d up to the top, each node at its only possible place.
 #![tactic(auto)]
+
 ghost use Rattle.std.specs.Prelude.{◌≡◌, ◌↔◌, List, true, ℕ, ◌≤◌, ◌<◌, length};
 ghost use Rattle.meaning.specs.Limits.{most_nodes, most_rows};
 ghost use Rattle.meaning.specs.Tree.{Takes};

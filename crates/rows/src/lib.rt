@@ -1,6 +1,7 @@
 // Rows in image order, as the code reads them: links and spans are numbers of sixteen bits, marks are read by bits.
 // One call for each read keeps the proofs of its callers short.
 #![tactic(auto)]
+
 ghost use Rattle.std.specs.Prelude.{◌≡◌, ◌<◌, length, get_or, set};
 ghost use Rattle.meaning.specs.Limits.{most_nodes};
 ghost use Rattle.rows.specs.Rows.{Borne, FirstRow, covers};

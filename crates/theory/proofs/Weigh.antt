@@ -12,7 +12,7 @@ use native.Mathlib.Omega.{arith}
 use lib.ListN.{length}
 use Rattle.meaning.specs.Basics.{is}
 use Rattle.meaning.specs.TreeQuery.{Lab, node, Table, at, Query, nodes, Live, TreeQuery}
-use Rattle.meaning.specs.Tree.{Forest, tree, Tag, size, choose, kids_from, tag_of, plant, grow, tree_of}
+use Rattle.meaning.specs.Tree.{Forest, Tag, size, choose, kids_from, tag_of, plant, grow, tree_of}
 use Rattle.theory.proofs.Count.{bit, count, src, dst, size_count}
 use Rattle.theory.proofs.Look.{live_lt, lt_live}
 use Rattle.theory.proofs.Levels.{level_bound}

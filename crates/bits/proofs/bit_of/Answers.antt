@@ -1,7 +1,6 @@
 -- A shift and a mask read the bit.
 use Rattle.bits.specs.Bits.{bit_of}
 use Rattle.bits.proofs.Bits.{and_one}
-use borrow.Author.Rules.{rules}
 use Rattle.bits.proofs.bit_of.Goals as goal
 
 pub returns : goal.returns

@@ -1,10 +1,6 @@
 -- The first i bytes are clear, the later ones as they were.
-use borrow.Author.Rules.{rules}
-use mathlib.Core.Path.{◌≡◌}
 use Prim.Native.Nat.{◌-◌, ◌≤◌}
-use native.Mathlib.Omega.{arith}
 use Rattle.bits.specs.Bits.{Cleared}
-use Rattle.bits.proofs.Bits.{clear_none, clear_more}
 use Rattle.bits.proofs.clear.Given as goal
 
 abbrev pub invariant-loop-i : goal.invariant-loop-i

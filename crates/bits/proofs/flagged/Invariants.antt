@@ -1,11 +1,8 @@
 -- A byte without bits keeps none; else its first k bits are sifted.
-use borrow.Author.Rules.{rules}
 use Prim.Native.Nat.{◌+◌, ◌-◌, ◌≤◌}
-use native.Mathlib.Omega.{arith}
 use lib.ListN.{get_or}
 use lib.Dec.{eqb}
 use Rattle.bits.specs.Bits.{Sifted}
-use Rattle.bits.proofs.Bits.{flagged_none, sifted_none, sifted_more}
 use Rattle.bits.proofs.flagged.Given as goal
 
 abbrev pub invariant-loop-k : goal.invariant-loop-k

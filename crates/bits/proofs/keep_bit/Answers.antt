@@ -1,6 +1,5 @@
 -- A mask clears the bit.
 use Rattle.bits.proofs.Bits.{keep_on, keep_off}
-use borrow.Author.Rules.{rules}
 use Rattle.bits.proofs.keep_bit.Goals as goal
 
 pub returns-then-on : goal.returns-then-on

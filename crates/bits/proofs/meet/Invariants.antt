@@ -1,10 +1,6 @@
 -- The first i bytes of row u keep the bits whose flags are 1.
-use borrow.Author.Rules.{rules}
-use mathlib.Core.Path.{◌≡◌}
 use Prim.Native.Nat.{◌*◌, ◌-◌, ◌≤◌}
-use native.Mathlib.Omega.{arith}
 use Rattle.bits.specs.Bits.{Met}
-use Rattle.bits.proofs.Bits.{met_none, met_more}
 use Rattle.bits.proofs.meet.Given as goal
 
 abbrev pub invariant-loop-i : goal.invariant-loop-i

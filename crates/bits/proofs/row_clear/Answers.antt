@@ -1,10 +1,6 @@
 -- `clear` tells whether the first i bytes are 0.
-use borrow.Author.Rules.{rules}
 use mathlib.Core.Path.{◌≡◌, refl}
-use Prim.Native.Nat.{◌+◌, ◌*◌, ◌-◌, ◌≤◌}
 use native.Mathlib.Omega.{arith}
-use lib.ListN.{get_or}
-use lib.Dec.{eqb}
 use Rattle.bits.specs.Bits.{all_to, row_clear}
 use Rattle.bits.proofs.Bits.{more_clear}
 use Rattle.bits.proofs.row_clear.Goals as goal

@@ -1,12 +1,9 @@
 -- `clear` tells whether the first i bytes are 0.
-use borrow.Author.Rules.{rules}
-use mathlib.Core.Path.{◌≡◌, refl}
+use mathlib.Core.Path.{◌≡◌}
 use Prim.Native.Nat.{◌+◌, ◌*◌, ◌-◌, ◌≤◌}
-use native.Mathlib.Omega.{arith}
 use lib.ListN.{get_or}
 use lib.Dec.{eqb}
-use Rattle.bits.specs.Bits.{all_to, row_clear}
-use Rattle.bits.proofs.Bits.{more_clear}
+use Rattle.bits.specs.Bits.{all_to}
 use Rattle.bits.proofs.row_clear.Given as goal
 
 abbrev pub invariant-loop-i : goal.invariant-loop-i

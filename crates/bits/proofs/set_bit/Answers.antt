@@ -1,6 +1,5 @@
 -- One byte of row u changes, by one bit.
 use Rattle.bits.proofs.Bits.{bit_set}
-use borrow.Author.Rules.{rules}
 use Rattle.bits.proofs.set_bit.Goals as goal
 
 pub returns : goal.returns

@@ -1,7 +1,6 @@
 -- A shift and a mask read the bit.
 use Rattle.meaning.specs.Matching.{bit_at}
 use Rattle.bits.proofs.Bits.{and_one}
-use borrow.Author.Rules.{rules}
 use Rattle.bits.proofs.test_bit.Goals as goal
 
 pub returns : goal.returns

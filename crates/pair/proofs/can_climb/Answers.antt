@@ -2,7 +2,6 @@
 use mathlib.Core.Path.{sym, ◌∙◌}
 use native.Mathlib.Omega.{arith}
 use Rattle.document.proofs.Nodes.{true_false}
-use borrow.Author.Rules.{rules}
 use Rattle.pair.proofs.can_climb.Goals as goal
 
 pub returns-then-x-eq0 : goal.returns-then-x-eq0

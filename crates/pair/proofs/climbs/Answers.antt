@@ -1,12 +1,9 @@
 -- The way from u on x can be laid exactly if the way from c on y can.
 use mathlib.Core.Path.{◌≡◌}
-use Prim.Native.Nat.{◌<◌}
 use native.Mathlib.Omega.{arith}
-use lib.ListN.{length}
-use borrow.Author.Rules.{rules}
 use Rattle.document.proofs.Nodes.{iff_same}
 use Rattle.pair.proofs.Climbing.{up_less}
-use Rattle.pair.proofs.Pair.{stuck, stepped, in_table, linked, parent_node, Climbed, climbed_more, climbed_not, climbed_all}
+use Rattle.pair.proofs.Pair.{stuck, stepped, in_table, linked, parent_node, climbed_more, climbed_not, climbed_all}
 use Rattle.pair.proofs.climbs.Goals as goal
 
 pub loop-c-init : goal.loop-c-init

@@ -1,11 +1,7 @@
 -- The pair is selected exactly if the ways from u on x and from v on y can be laid at once.
 use Prim.Native.Nat.{◌+◌, ◌<◌}
-use native.Mathlib.Omega.{arith}
 use lib.ListN.{length}
-use borrow.Author.Rules.{rules}
-use Rattle.pair.proofs.Climbing.{up_less}
-use Rattle.pair.proofs.Pair.{stuck, stepped, borne_s, borne_d, in_table, linked, parent_node, Meeting}
-use Rattle.pair.proofs.Pair.{meeting_none, meeting_more, meeting_not, meeting_more_d, meeting_not_d, meeting_apart, meeting_all}
+use Rattle.pair.proofs.Pair.{Meeting}
 use Rattle.pair.proofs.pair_selected.Given as goal
 
 abbrev pub invariant-loop-u : goal.invariant-loop-u

@@ -1,6 +1,5 @@
 -- A row before row c is not below it.
 use borrow.Author.Tests.{le-leb, lt-leb}
-use borrow.Author.Rules.{rules}
 use Rattle.rows.specs.Rows.{covers}
 use Rattle.rows.proofs.holds.Goals as goal
 

@@ -1,10 +1,7 @@
 -- No row before u bears the mark, so row u is there.
 use mathlib.Core.Path.{sym, ◌∙◌}
-use Prim.Native.Nat.{◌-◌, ◌+◌, ◌<◌}
+use Prim.Native.Nat.{◌+◌}
 use native.Mathlib.Omega.{arith}
-use borrow.Author.Tests.{not-true, not-false}
-use borrow.Author.Rules.{rules}
-use Rattle.meaning.specs.Limits.{most_nodes}
 use Rattle.rows.proofs.Marks.{Passed, not_passed, passed_more}
 use Rattle.rows.proofs.row_of.Goals as goal
 

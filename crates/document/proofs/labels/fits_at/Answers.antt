@@ -1,6 +1,5 @@
 -- A wildcard fits every label, a code one more than its label.
 use Rattle.document.proofs.Nodes.{fit_any, fit_code}
-use borrow.Author.Rules.{rules}
 use Rattle.document.proofs.labels.fits_at.Goals as goal
 
 pub returns-then-code-eq0 : goal.returns-then-code-eq0

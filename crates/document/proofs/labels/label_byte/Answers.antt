@@ -1,6 +1,5 @@
 -- A wildcard fits all eight nodes.
 use Rattle.document.proofs.Nodes.{byte_any, byte_code}
-use borrow.Author.Rules.{rules}
 use Rattle.document.proofs.labels.label_byte.Goals as goal
 
 pub returns-then-code-eq0 : goal.returns-then-code-eq0

@@ -1,12 +1,8 @@
 -- Row u is right below v, and clear from v on.
-use borrow.Author.Rules.{rules}
 use Prim.Native.Nat.{◌-◌, ◌≤◌}
-use native.Mathlib.Omega.{arith}
 use lib.ListN.{length}
 use Rattle.bits.specs.Bits.{OnlyRow}
-use Rattle.bits.proofs.Bits.{only_refl, only_then}
 use Rattle.document.specs.Nodes.{Suits, RowUpTo}
-use Rattle.document.proofs.Nodes.{row_all}
 use Rattle.document.proofs.labels.label_rest.Given as goal
 
 abbrev pub invariant-loop-v : goal.invariant-loop-v

@@ -1,12 +1,10 @@
 -- The first i bytes of row u are right, and the rest of it is clear.
-use borrow.Author.Rules.{rules}
 use mathlib.Core.Path.{◌≡◌, ◌∙◌}
-use Prim.Native.Nat.{◌*◌, ◌-◌, ◌/◌, ◌≤◌}
+use Prim.Native.Nat.{◌/◌}
 use lib.ListN.{length}
 use native.Mathlib.Omega.{arith}
-use Rattle.bits.specs.Bits.{OnlyRow}
 use Rattle.bits.proofs.Bits.{only_refl, only_then, store_only}
-use Rattle.document.specs.Nodes.{Suits, RowUpTo}
+use Rattle.document.specs.Nodes.{Suits}
 use Rattle.document.proofs.Nodes.{row_none, row_byte}
 use Rattle.document.proofs.labels.label_row.Goals as goal
 
@@ -21,14 +19,13 @@ bounds-w-at c =
     omega (arith, c.loop-i.invariant.1.same, c.requires.1, c.requires.2)
 
 pub loop-i-preserved : goal.loop-i-preserved
-loop-i-preserved c =
-    (
-      omega arith,
-      only_then _ _ _ _ c.loop-i.invariant.1
-          (store_only _ _ c.loop-i.i _ (omega (arith, c.requires.2)) (omega (arith, c.loop-i.invariant.1.same, c.requires.1))),
-      row_byte _ (Suits c.args.code c.args.labels.now) c.loop-i.i _ _ (omega (arith, c.requires.2))
-          (omega (arith, c.loop-i.invariant.1.same, c.requires.1)) c.label_byte.ensures c.loop-i.invariant.2,
-    )
+loop-i-preserved c = (
+  omega arith,
+  only_then _ _ _ _ c.loop-i.invariant.1
+      (store_only _ _ c.loop-i.i _ (omega (arith, c.requires.2)) (omega (arith, c.loop-i.invariant.1.same, c.requires.1))),
+  row_byte _ (Suits c.args.code c.args.labels.now) c.loop-i.i _ _ (omega (arith, c.requires.2))
+      (omega (arith, c.loop-i.invariant.1.same, c.requires.1)) c.label_byte.ensures c.loop-i.invariant.2,
+)
 
 pub label_rest-requires : goal.label_rest-requires
 label_rest-requires c =

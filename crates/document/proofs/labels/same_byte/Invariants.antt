@@ -1,12 +1,8 @@
 -- The first k bits of b are left where the nodes bear the label.
-use borrow.Author.Rules.{rules}
-use mathlib.Core.Path.{◌≡◌}
 use Prim.Native.Nat.{◌+◌, ◌-◌, ◌≤◌}
-use native.Mathlib.Omega.{arith}
 use lib.ListN.{get_or}
 use lib.Dec.{eqb}
 use Rattle.bits.specs.Bits.{Sifted}
-use Rattle.bits.proofs.Bits.{sifted_none, sifted_more}
 use Rattle.document.proofs.labels.same_byte.Given as goal
 
 abbrev pub invariant-loop-k : goal.invariant-loop-k

@@ -1,8 +1,6 @@
 -- While the rows are good what is left to check from node x on decides, once the lengths are right.
-use borrow.Author.Rules.{rules}
-use Prim.Native.Nat.{◌-◌, ◌≤◌}
 use native.Mathlib.Omega.{arith}
-use Rattle.document.proofs.Tables.{SoFar, table_none, table_many, table_uneven, sofar_none, sofar_more, sofar_all}
+use Rattle.document.proofs.Tables.{table_none, table_many, table_uneven, sofar_none, sofar_more, sofar_all}
 use Rattle.document.proofs.table.good_table.Goals as goal
 
 pub returns-then-n-eq0 : goal.returns-then-n-eq0

@@ -1,6 +1,5 @@
 -- The row decides while all before it are good.
 use Rattle.document.proofs.Tables.{good_not, good_too}
-use borrow.Author.Rules.{rules}
 use Rattle.document.proofs.table.still_good.Goals as goal
 
 pub returns-then-not-good_row : goal.returns-then-not-good_row

@@ -1,15 +1,12 @@
 -- What is left of row u, and the children from c on, say where u can be laid.
 use mathlib.Core.Path.{sym, ◌∙◌}
-use Prim.Native.Nat.{◌+◌, ◌-◌, ◌≤◌, ◌<◌}
 use native.Mathlib.Omega.{arith}
 use borrow.Author.Rules.{rules}
-use Rattle.bits.specs.Bits.{OnlyRow}
 use Rattle.bits.proofs.Bits.{only_refl, only_then, row_clear_lem}
 use Rattle.rows.proofs.Rows.{row_opens}
-use Rattle.matching.specs.Table.{RowInside, RowsFrom}
 use Rattle.document.proofs.Tables.{good_table_lem}
 use Rattle.matching.proofs.Flags.{good_parents}
-use Rattle.matching.proofs.Filled.{Partly, partly_next, partly_start, partly_turn, partly_all, partly_clear, rows_kept, rows_inside}
+use Rattle.matching.proofs.Filled.{partly_next, partly_start, partly_turn, partly_all, partly_clear, rows_kept, rows_inside}
 use Rattle.matching.proofs.filling.fill_row.Goals as goal
 
 pub label_row-requires : goal.label_row-requires
@@ -38,16 +35,15 @@ returns-then-row_clear c =
     }
 
 pub keep_parents-requires : goal.keep_parents-requires
-keep_parents-requires c =
-    (
-      good_parents _ _ (good_table_lem _ _ c.requires.table),
-      search rules,
-      search rules,
-      search rules,
-      rows_inside c.args.code.now c.args.span.now _ _ c.requires.table _ _ _ c.loop-c.invariant.3 c.loop-c.c (omega (arith, c.loop-c.invariant.0))
-          (omega (arith, c.loop-c.invariant.1, c.loop-c-test.true)),
-      c.loop-c.invariant.5,
-    )
+keep_parents-requires c = (
+  good_parents _ _ (good_table_lem _ _ c.requires.table),
+  search rules,
+  search rules,
+  search rules,
+  rows_inside c.args.code.now c.args.span.now _ _ c.requires.table _ _ _ c.loop-c.invariant.3 c.loop-c.c (omega (arith, c.loop-c.invariant.0))
+      (omega (arith, c.loop-c.invariant.1, c.loop-c-test.true)),
+  c.loop-c.invariant.5,
+)
 
 pub loop-c-smaller : goal.loop-c-smaller
 loop-c-smaller c =
@@ -55,18 +51,17 @@ loop-c-smaller c =
     omega (arith, c.at-c.ensures.0, o.0, c.loop-c-test.true)
 
 pub loop-c-preserved : goal.loop-c-preserved
-loop-c-preserved c =
-    (
-      omega (arith, c.loop-c.invariant.0),
-      c.loop-c.invariant.1,
-      only_then _ _ _ _ c.loop-c.invariant.2 c.keep_parents.ensures.only,
-      rows_kept c.args.code.now c.args.span.now _ _ c.requires.table _ _ _ _ c.keep_parents.ensures.only c.loop-c.invariant.3,
-      rw c.at-c.ensures.0
-          (partly_turn _ _ _ _ c.requires.table _ _ _ c.loop-c-test.true _ _
-          (λ x lx. c.loop-c.invariant.3 c.loop-c.c x (omega (arith, c.loop-c.invariant.0)) (omega (arith, c.loop-c.invariant.1, c.loop-c-test.true)) lx)
-          c.keep_parents.ensures c.loop-c.invariant.4),
-      λ x l t. c.loop-c.invariant.5 x l ((c.keep_parents.ensures.bits x l).0 t).0,
-    )
+loop-c-preserved c = (
+  omega (arith, c.loop-c.invariant.0),
+  c.loop-c.invariant.1,
+  only_then _ _ _ _ c.loop-c.invariant.2 c.keep_parents.ensures.only,
+  rows_kept c.args.code.now c.args.span.now _ _ c.requires.table _ _ _ _ c.keep_parents.ensures.only c.loop-c.invariant.3,
+  rw c.at-c.ensures.0
+      (partly_turn _ _ _ _ c.requires.table _ _ _ c.loop-c-test.true _ _
+      (λ x lx. c.loop-c.invariant.3 c.loop-c.c x (omega (arith, c.loop-c.invariant.0)) (omega (arith, c.loop-c.invariant.1, c.loop-c-test.true)) lx)
+      c.keep_parents.ensures c.loop-c.invariant.4),
+  λ x l t. c.loop-c.invariant.5 x l ((c.keep_parents.ensures.bits x l).0 t).0,
+)
 
 pub returns : goal.returns
 returns c =

@@ -1,15 +1,8 @@
 -- What is left of row u, and the children from c on, say where u can be laid.
-use mathlib.Core.Path.{sym, ◌∙◌}
 use Prim.Native.Nat.{◌+◌, ◌-◌, ◌≤◌, ◌<◌}
-use native.Mathlib.Omega.{arith}
-use borrow.Author.Rules.{rules}
 use Rattle.bits.specs.Bits.{OnlyRow}
-use Rattle.bits.proofs.Bits.{only_refl, only_then, row_clear_lem}
-use Rattle.rows.proofs.Rows.{row_opens}
 use Rattle.matching.specs.Table.{RowInside, RowsFrom}
-use Rattle.document.proofs.Tables.{good_table_lem}
-use Rattle.matching.proofs.Flags.{good_parents}
-use Rattle.matching.proofs.Filled.{Partly, partly_next, partly_start, partly_turn, partly_all, partly_clear, rows_kept, rows_inside}
+use Rattle.matching.proofs.Filled.{Partly}
 use Rattle.matching.proofs.filling.fill_row.Given as goal
 
 abbrev pub invariant-loop-c : goal.invariant-loop-c

@@ -1,6 +1,5 @@
 -- A child that lies nowhere leaves the row clear.
 use Rattle.matching.proofs.Filled.{row_nowhere}
-use borrow.Author.Rules.{rules}
 use Rattle.matching.proofs.filling.match_row.Goals as goal
 
 pub returns-then-child_nowhere : goal.returns-then-child_nowhere

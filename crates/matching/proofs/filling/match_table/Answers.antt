@@ -1,11 +1,5 @@
 -- The rows from u on are filled, all other bits are clear.
-use borrow.Author.Rules.{rules}
-use mathlib.Core.List.{List}
-use Prim.Native.Nat.{ℕ, ◌≤◌}
 use native.Mathlib.Omega.{arith}
-use Rattle.meaning.specs.Matching.{table_bytes}
-use Rattle.bits.specs.Bits.{Cleared}
-use Rattle.matching.specs.Table.{Filled}
 use Rattle.matching.proofs.Filled.{filled_none, filled_ready, filled_more, filled_all}
 use Rattle.matching.proofs.filling.match_table.Goals as goal
 
@@ -19,12 +13,11 @@ match_row-requires c =
     (c.loop-u.invariant.1 _ c.clear.ensures)
 
 pub loop-u-preserved : goal.loop-u-preserved
-loop-u-preserved c =
-    (
-      omega (arith, c.loop-u.invariant.0),
-      λ w h. filled_more _ _ _ _ c.requires.1 w _ c.requires.0 _ _ _ c.loop-u-test.true
-          c.loop-u.invariant.0 (c.loop-u.invariant.1 w h) c.match_row.ensures,
-    )
+loop-u-preserved c = (
+  omega (arith, c.loop-u.invariant.0),
+  λ w h. filled_more _ _ _ _ c.requires.1 w _ c.requires.0 _ _ _ c.loop-u-test.true
+      c.loop-u.invariant.0 (c.loop-u.invariant.1 w h) c.match_row.ensures,
+)
 
 pub shape_of-workspace : goal.shape_of-workspace
 shape_of-workspace c = (c.loop-u.invariant.1 _ c.clear.ensures).same

@@ -1,12 +1,9 @@
 -- The rows from u on are filled, all other bits are clear.
-use borrow.Author.Rules.{rules}
 use mathlib.Core.List.{List}
 use Prim.Native.Nat.{ℕ, ◌≤◌}
-use native.Mathlib.Omega.{arith}
 use Rattle.meaning.specs.Matching.{table_bytes}
 use Rattle.bits.specs.Bits.{Cleared}
 use Rattle.matching.specs.Table.{Filled}
-use Rattle.matching.proofs.Filled.{filled_none, filled_ready, filled_more, filled_all}
 use Rattle.matching.proofs.filling.match_table.Given as goal
 
 abbrev pub invariant-loop-u : goal.invariant-loop-u

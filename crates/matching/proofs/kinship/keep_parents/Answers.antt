@@ -3,7 +3,6 @@ use native.Mathlib.Omega.{arith}
 use lib.ListN.{get_or-replicate}
 use Rattle.meaning.specs.Limits.{most_rows}
 use Rattle.matching.proofs.Flags.{kept}
-use borrow.Author.Rules.{rules}
 use Rattle.matching.proofs.kinship.keep_parents.Goals as goal
 
 pub returns : goal.returns

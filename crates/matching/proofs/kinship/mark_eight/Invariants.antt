@@ -1,11 +1,8 @@
 -- The parents of the first k nodes are flagged.
-use borrow.Author.Rules.{rules}
 use mathlib.Core.Path.{◌≡◌}
 use Prim.Native.Nat.{◌+◌, ◌-◌, ◌≤◌}
-use native.Mathlib.Omega.{arith}
 use lib.ListN.{get_or}
 use Rattle.matching.specs.Table.{Upto, Added}
-use Rattle.matching.proofs.Flags.{upto_none, upto_more}
 use Rattle.matching.proofs.kinship.mark_eight.Given as goal
 
 abbrev pub invariant-loop-k : goal.invariant-loop-k

@@ -1,7 +1,6 @@
 -- One flag is set.
 use native.Mathlib.Omega.{arith}
 use Rattle.matching.proofs.Flags.{added_one}
-use borrow.Author.Rules.{rules}
 use Rattle.matching.proofs.kinship.mark_node.Goals as goal
 
 pub bounds-has-p : goal.bounds-has-p

@@ -1,7 +1,6 @@
 -- The bit says whether the parent is flagged.
 use mathlib.Core.Path.{sym, ◌∙◌}
 use Rattle.matching.proofs.Flags.{added_set, added_not}
-use borrow.Author.Rules.{rules}
 use Rattle.matching.proofs.kinship.mark_parent.Goals as goal
 
 pub mark_node-requires : goal.mark_node-requires

@@ -1,13 +1,10 @@
 -- The parents of the nodes of the first k bits are flagged.
-use borrow.Author.Rules.{rules}
 use mathlib.Core.Path.{◌≡◌}
 use mathlib.Core.Bool.{true}
 use Prim.Native.Nat.{◌+◌, ◌-◌, ◌≤◌}
-use native.Mathlib.Omega.{arith}
 use lib.ListN.{get_or}
 use Rattle.bits.specs.Bits.{bit_of}
 use Rattle.matching.specs.Table.{Upto, Added}
-use Rattle.matching.proofs.Flags.{upto_none, upto_more, whole_byte}
 use Rattle.matching.proofs.kinship.mark_parents.Given as goal
 
 abbrev pub invariant-loop-k : goal.invariant-loop-k

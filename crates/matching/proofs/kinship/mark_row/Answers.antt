@@ -1,11 +1,9 @@
 -- The parents of the nodes below 8i are flagged.
 use borrow.Author.Rules.{rules}
-use mathlib.Core.Path.{◌≡◌, ◌∙◌}
-use mathlib.Core.List.{List}
-use Prim.Native.Nat.{ℕ, ◌+◌, ◌*◌, ◌-◌, ◌≤◌, ◌<◌}
+use mathlib.Core.Path.{◌∙◌}
+use Prim.Native.Nat.{◌+◌, ◌*◌, ◌<◌}
 use native.Mathlib.Omega.{arith}
-use lib.ListN.{length, get_or}
-use Rattle.matching.specs.Table.{ParentOf, Added}
+use lib.ListN.{get_or}
 use Rattle.matching.proofs.Flags.{byte_inside, first_inside, added_first, added_byte, added_row}
 use Rattle.matching.proofs.kinship.mark_row.Goals as goal
 
