@@ -1,5 +1,5 @@
 -- A tree put into a list of brothers by two links, and forests that are so put in order: the rows, their number and their children stay.
-use mathlib.Core.Path.{◌≡◌, refl, sym, ap, ◌∙◌}
+use mathlib.Core.Path.{◌≡◌, refl, sym, ap, ◌∙◌, subst}
 use mathlib.Core.Logic.{◌⊎◌, inl, inr}
 use mathlib.Core.List.{List}
 use mathlib.Core.Bool.{Bool, true, false, cond}
@@ -122,20 +122,22 @@ module _ {n : ℕ} {fs ns : List ℕ} {c q : ℕ} (w : Ready n fs ns c q) (key :
       go true ih = inl (refl, refl)
       go false (inl (ep, er)) =
           let v = get_or ns b 0 in
+          let here : Linked n fs (set (set ns c v) b c) x (tree b l (tree c K r)) = (
+            e,
+            lb,
+            other b v c (get_or fs b 0) l (λ m. cF (inr (inl m))) bl hl,
+            rw (get_or-set_same (set ns c v) b c 0 (rw (length-set ns c v) (omega (arith, w.nexts)))) (
+              refl,
+              w.inside,
+              other b v c (get_or fs c 0) K w.apart.0 (λ m. kF b m (inl refl)) w.kids.holds,
+              rw (get_or-set_other (set ns c v) b c c 0 (λ y. cF (inl y)), get_or-set_same ns c v 0 (omega (arith, w.inside, w.nexts)))
+                  (other b v c v r (λ m. cF (inr (inr m))) br hr),
+            ),
+          ) in
           inr (
             inl ep,
-            rw (ep, er) (
-              e,
-              lb,
-              other b v c (get_or fs b 0) l (λ m. cF (inr (inl m))) bl hl,
-              rw (get_or-set_same (set ns c v) b c 0 (rw (length-set ns c v) (omega (arith, w.nexts)))) (
-                refl,
-                w.inside,
-                other b v c (get_or fs c 0) K w.apart.0 (λ m. kF b m (inl refl)) w.kids.holds,
-                rw (get_or-set_other (set ns c v) b c c 0 (λ y. cF (inl y)), get_or-set_same ns c v 0 (omega (arith, w.inside, w.nexts)))
-                    (other b v c v r (λ m. cF (inr (inr m))) br hr),
-              ),
-            ),
+            subst (λ (z : ℕ). Linked n fs (set (set ns c (get_or ns z 0)) z c) x (tree b l (place_by key c K r))) (sym ep)
+                (subst (λ (G : Forest ℕ). Linked n fs (set (set ns c v) b c) x (tree b l G)) (sym er) here),
           )
       go false (inr (m, h)) =
           let p = spot_of key c K b r in let v = get_or ns p 0 in

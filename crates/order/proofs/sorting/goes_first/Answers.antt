@@ -18,12 +18,12 @@ compare-o-requires c =
 
 pub returns-in-Before : goal.returns-in-Before
 returns-in-Before c =
-    first_kids _ _ _ _ _ _ c.if-a-b.false c.if-b-a.false c.row_at.ensures.0 c.row_at-2.ensures.0 c.compare-o.ensures c.enum_told-1.given.1
+    first_kids _ _ _ _ _ _ c.if-a-b.false c.if-b-a.false c.row_at.ensures.0 c.row_at-2.ensures.0 c.compare-o.ensures c.in-Before.is
 
 pub returns-in-Same : goal.returns-in-Same
 returns-in-Same c =
-    first_kids _ _ _ _ _ _ c.if-a-b.false c.if-b-a.false c.row_at.ensures.0 c.row_at-2.ensures.0 c.compare-o.ensures c.enum_told-in-Same-1.given.1
+    first_kids _ _ _ _ _ _ c.if-a-b.false c.if-b-a.false c.row_at.ensures.0 c.row_at-2.ensures.0 c.compare-o.ensures c.in-Same.is
 
 pub returns-in-After : goal.returns-in-After
 returns-in-After c =
-    first_kids _ _ _ _ _ _ c.if-a-b.false c.if-b-a.false c.row_at.ensures.0 c.row_at-2.ensures.0 c.compare-o.ensures c.enum_told-in-After-1.given.1
+    first_kids _ _ _ _ _ _ c.if-a-b.false c.if-b-a.false c.row_at.ensures.0 c.row_at-2.ensures.0 c.compare-o.ensures c.in-After.is
