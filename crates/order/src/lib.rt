@@ -1,6 +1,7 @@
 // Brothers in ascending byte order: from a table of parents to rows in image order.
 // The children of each row become a list, which is in order from the start; then the tree is laid out as rows.
 #![tactic(auto)]
+
 mod children; // children.rt: the children of each row, as lists
 mod key; // key.rt: one number for the head of a record
 mod sorting; // sorting.rt: comparing two brothers, and putting all in order

@@ -1,10 +1,6 @@
 use borrow.Author.Rules.{rules}
 use mathlib.Core.Path.{◌∙◌}
 use Rattle.order.proofs.Gathering.{hangs, tree_read, listed_table}
-use Rattle.order.proofs.tree_rows.Reads as reads
-use Rattle.order.proofs.tree_rows.Lts as lts
-use Rattle.order.proofs.children.gather.Reads as gather-reads
-use Rattle.order.proofs.laying.lay.Reads as lay-reads
 use Rattle.order.proofs.tree_rows.Goals as goal
 
 pub gather-requires : goal.gather-requires

@@ -1,12 +1,6 @@
-use borrow.Author.Rules.{rules}
 use Prim.Native.Nat.{◌+◌, ◌-◌, ◌≤◌}
-use mathlib.Core.Path.{◌≡◌}
-use native.Mathlib.Omega.{arith}
 use Rattle.order.specs.Contract.{Lent}
 use Rattle.order.specs.Gathering.{Cleared}
-use Rattle.order.proofs.Gathering.{lent_set, cleared_more}
-use Rattle.order.proofs.children.clear.Reads as reads
-use Rattle.order.proofs.children.clear.Lts as lts
 use Rattle.order.proofs.children.clear.Given as goal
 
 abbrev pub invariant-loop-i : goal.invariant-loop-i

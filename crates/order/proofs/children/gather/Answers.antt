@@ -1,16 +1,8 @@
-use borrow.Author.Rules.{rules}
-use Prim.Native.Nat.{suc, ◌-◌, ◌≤◌}
+use Prim.Native.Nat.{suc, ◌-◌}
 use mathlib.Core.Path.{◌≡◌, ap, ◌∙◌}
 use native.Mathlib.Omega.{arith}
-use Rattle.order.specs.Contract.{Lent}
 use Rattle.order.specs.Links.{slot_of}
-use Rattle.order.specs.Gathering.{Gathered}
 use Rattle.order.proofs.Gathering.{lent_set, gathered_none, gathered_turn}
-use Rattle.order.proofs.children.gather.Reads as reads
-use Rattle.order.proofs.children.gather.Lts as lts
-use Rattle.order.proofs.children.clear.Reads as clear_reads
-use Rattle.order.proofs.children.slot.Reads as slot-reads
-use Rattle.rows.proofs.link.Reads as link-reads
 use Rattle.order.proofs.children.gather.Goals as goal
 
 pub clear-requires : goal.clear-requires

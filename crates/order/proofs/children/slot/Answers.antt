@@ -1,7 +1,5 @@
 use borrow.Author.Rules.{rules}
 use Rattle.order.proofs.Links.{slot_row, slot_top}
-use Rattle.order.proofs.children.slot.Reads as reads
-use Rattle.order.proofs.children.slot.Lts as lts
 use Rattle.order.proofs.children.slot.Goals as goal
 
 pub returns-then-p-n : goal.returns-then-p-n

@@ -1,7 +1,4 @@
 use Rattle.order.proofs.Keys.{three_one, three_two, three_three}
-use borrow.Author.Rules.{rules}
-use Rattle.order.proofs.key.bytes_of.Reads as reads
-use Rattle.order.proofs.key.bytes_of.Lts as lts
 use Rattle.order.proofs.key.bytes_of.Goals as goal
 
 pub returns-then-x-lt128 : goal.returns-then-x-lt128

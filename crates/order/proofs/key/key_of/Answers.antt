@@ -1,8 +1,4 @@
 use Rattle.order.specs.Keys.{key_of}
-use borrow.Author.Rules.{rules}
-use Rattle.order.proofs.key.key_of.Reads as reads
-use Rattle.order.proofs.key.key_of.Lts as lts
-use Rattle.order.proofs.key.bytes_of.Reads as bytes-of-reads
 use Rattle.order.proofs.key.key_of.Goals as goal
 
 pub returns : goal.returns

@@ -1,10 +1,5 @@
-use borrow.Author.Rules.{rules}
 use native.Mathlib.Omega.{arith}
-use Rattle.order.proofs.LaidOut.{Laying, to_go, laying_none, fits, down_less, laying_down, climbs, laid_rows}
-use Rattle.order.proofs.laying.lay.Reads as reads
-use Rattle.order.proofs.laying.lay.Lts as lts
-use Rattle.order.proofs.children.row_at.Reads as row-at-reads
-use Rattle.rows.proofs.wide.Reads as wide-reads
+use Rattle.order.proofs.LaidOut.{laying_none, fits, down_less, laying_down, climbs, laid_rows}
 use Rattle.order.proofs.laying.lay.Goals as goal
 
 pub loop-x-init : goal.loop-x-init

@@ -1,10 +1,4 @@
-use borrow.Author.Rules.{rules}
-use native.Mathlib.Omega.{arith}
-use Rattle.order.proofs.LaidOut.{Laying, to_go, laying_none, fits, down_less, laying_down, climbs, laid_rows}
-use Rattle.order.proofs.laying.lay.Reads as reads
-use Rattle.order.proofs.laying.lay.Lts as lts
-use Rattle.order.proofs.children.row_at.Reads as row-at-reads
-use Rattle.rows.proofs.wide.Reads as wide-reads
+use Rattle.order.proofs.LaidOut.{Laying, to_go}
 use Rattle.order.proofs.laying.lay.Given as goal
 
 abbrev pub invariant-loop-x : goal.invariant-loop-x

@@ -1,9 +1,4 @@
-use borrow.Author.Rules.{rules}
 use Rattle.order.proofs.Links.{first_less, first_more, first_kids}
-use Rattle.order.proofs.sorting.goes_first.Reads as reads
-use Rattle.order.proofs.sorting.goes_first.Lts as lts
-use Rattle.order.proofs.sorting.compare.Reads as compare-reads
-use Rattle.order.proofs.children.row_at.Reads as row-at-reads
 use Rattle.order.proofs.sorting.goes_first.Goals as goal
 
 pub returns-then-a-b : goal.returns-then-a-b

@@ -1,8 +1,4 @@
-use borrow.Author.Rules.{rules}
 use Rattle.order.proofs.Inserting.{placed_front, placed_after}
-use Rattle.order.proofs.sorting.place.Reads as reads
-use Rattle.order.proofs.sorting.place.Lts as lts
-use Rattle.order.proofs.sorting.spot.Reads as spot-reads
 use Rattle.order.proofs.sorting.place.Goals as goal
 
 pub returns-then-n-p : goal.returns-then-n-p

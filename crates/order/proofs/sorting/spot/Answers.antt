@@ -1,13 +1,6 @@
-use mathlib.Core.Path.{◌≡◌, refl, sym, ◌∙◌}
-use borrow.Author.Rules.{rules}
-use lib.ListN.{get_or}
-use Rattle.meaning.specs.Tree.{size}
-use Rattle.order.specs.Links.{Finite, forest_at, spot_of, spot_at}
+use mathlib.Core.Path.{refl, sym, ◌∙◌}
+use Rattle.order.specs.Links.{spot_at}
 use Rattle.order.proofs.Links.{opens, goes_along, spot_end, spot_here, spot_on}
-use Rattle.order.proofs.sorting.spot.Reads as reads
-use Rattle.order.proofs.sorting.spot.Lts as lts
-use Rattle.order.proofs.sorting.goes_first.Reads as goes-first-reads
-use Rattle.order.proofs.children.row_at.Reads as row-at-reads
 use Rattle.order.proofs.sorting.spot.Goals as goal
 
 pub loop-at-init : goal.loop-at-init
