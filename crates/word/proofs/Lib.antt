@@ -8,5 +8,3 @@ mod Outcomes
 mod Reading
 mod Counting
 mod Checking
-pub mod Lending
-pub mod OneCursor

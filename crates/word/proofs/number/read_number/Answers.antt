@@ -1,7 +1,5 @@
 -- The signs are the numbers up to the largest sign.
-use borrow.Author.Rules.{rules}
 use Rattle.meaning.specs.Number.{read_number}
-use Rattle.word.proofs.number.read_up_to.Reads as read-up-to-reads
 use Rattle.word.proofs.number.read_number.Goals as goal
 
 pub returns : goal.returns
