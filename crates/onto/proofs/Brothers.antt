@@ -1,6 +1,6 @@
 -- A loop over brothers: row a is the first of those that are left, the next one stands at a + span a. What the loop has shown of every brother before a
 -- holds of all brothers at the end.
-use mathlib.Core.Path.{◌≡◌, refl, sym, ◌∙◌}
+use mathlib.Core.Path.{◌≡◌, refl, sym, subst, ◌∙◌}
 use mathlib.Core.Logic.{◌⊎◌, inl, inr, ⊎_elim}
 use mathlib.Core.List.{List}
 use Prim.Native.Nat.{ℕ, suc, ◌+◌, ◌≤◌, ◌<◌}
@@ -17,7 +17,7 @@ module _ (span : List ℕ) where
   pub brother_range : (u e : ℕ) (F : Forest ℕ) → Holds span u e F → (j : ℕ) → Brother j F → (u ≤ j) × (j < e)
   brother_range u e bare h j t = absurd t
   brother_range u e (tree i k r) h j (inl q) = let s = size_holds span u e (tree i k r) h in (omega (arith, h.0), omega (arith, h.0))
-  brother_range u e (tree i k r) h j (inr t) = let z = brother_range _ e r h.3 j t in (omega (arith, h.0), z.1)
+  brother_range u e (tree i k r) h j (inr t) = let z = brother_range (suc i + size k) e r h.3 j t in (omega (arith, h.0), z.1)
 
   pub brother_opens : (u e : ℕ) (F : Forest ℕ) → Holds span u e F → (j : ℕ) → Brother j F → Opens span j e
   brother_opens u e F h j t = let z = brother_range u e F h j t in holds_opens span u e F h j z.0 z.1
@@ -33,13 +33,13 @@ module _ (span : List ℕ) where
   brother_next u e bare h a t = absurd t
   brother_next u e (tree i k r) h a (inl q) =
       let z : a + get_or span a 0 ≡ suc i + size k = rw q (omega (arith, h.1)) in
-      rw z (
+      subst (λ (y : ℕ). ((y ≡ e) ⊎ Brother y (tree i k r)) × ((x : ℕ) → Brother x (tree i k r) → x < y → (x < a) ⊎ (x ≡ a))) (sym z) (
         ⊎_elim inl (λ t. inr (inr t)) (brother_first _ e r h.3),
-        λ x. ⊎_elim (λ w l. inr (w ∙ sym q)) (λ t l. absurd (omega (arith, brother_range _ e r h.3 x t))),
+        λ x. ⊎_elim (λ w l. inr (w ∙ sym q)) (λ t l. absurd (omega (arith, brother_range (suc i + size k) e r h.3 x t))),
       )
   brother_next u e (tree i k r) h a (inr t) =
-      let w = brother_next _ e r h.3 a t in
-      let m = (brother_range _ e r h.3 a t).0 in
+      let w = brother_next (suc i + size k) e r h.3 a t in
+      let m = (brother_range (suc i + size k) e r h.3 a t).0 in
       (⊎_elim inl (λ s. inr (inr s)) w.0, λ x. ⊎_elim (λ q l. inl (omega arith)) (w.1 x))
 
   -- no brother lies below a row that comes behind where they begin
@@ -47,10 +47,10 @@ module _ (span : List ℕ) where
   brother_apart u e bare h j t x a b c = absurd t
   brother_apart u e (tree i k r) h j (inl q) x a b c = omega (arith, h.0)
   brother_apart u e (tree i k r) h j (inr t) x a b c =
-      go (ℕ_discrete x i) (dec_lt x (suc i + size k)) (λ l. brother_apart _ e r h.3 j t x l b c)
+      go (ℕ_discrete x i) (dec_lt x (suc i + size k)) (λ l. brother_apart (suc i + size k) e r h.3 j t x l b c)
     where
       far : suc i + size k ≤ j
-      far = (brother_range _ e r h.3 j t).0
+      far = (brother_range (suc i + size k) e r h.3 j t).0
 
       go : Dec (x ≡ i) → Dec (x < suc i + size k) → (suc i + size k ≤ x → ⊥) → ⊥
       go (yes z) d f = let w : get_or span x 0 ≡ suc (size k) = rw z h.1 in omega (arith, far)

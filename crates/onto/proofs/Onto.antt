@@ -12,7 +12,7 @@ use lib.Bits.{bit_and, bit_or, and_mod}
 use borrow.Author.Tests.{eqb-true, eqb-false}
 use Rattle.meaning.specs.Limits.{most_nodes}
 use Rattle.meaning.specs.Basics.{is, dec_both}
-use Rattle.meaning.specs.Tree.{Forest, bare, tree}
+use Rattle.meaning.specs.Tree.{Forest, bare, tree, size}
 use Rattle.meaning.specs.Folding.{LabLe, dec_mark}
 use Rattle.theory.proofs.Look.{never}
 use Rattle.theory.proofs.Canon.{height}
@@ -118,7 +118,7 @@ height_child : (span : List ℕ) (u e : ℕ) (F : Forest ℕ) → Holds span u e
 height_child span u e bare h a t = absurd t
 height_child span u e (tree i k r) h a (inl q) =
     let z : below span a ≡ k = ap (below span) (q ∙ sym h.0) ∙ (holds_first span u e i k r h).0 in rw z (omega arith)
-height_child span u e (tree i k r) h a (inr t) = let z = height_child span _ e r h.3 a t in omega arith
+height_child span u e (tree i k r) h a (inr t) = let z = height_child span (suc i + size k) e r h.3 a t in omega arith
 
 module _ {t : Nodes} {u : ℕ} (S : Stands t u) where
   pub stands_in : u < most_nodes

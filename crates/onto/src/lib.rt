@@ -2,6 +2,7 @@
 // of v", over rows in image order of which some have gone. Row u stands in the first of two tables and row v in the second: brothers of one tree are
 // held against each other by lending its table twice.
 #![tactic(auto)]
+
 ghost use Rattle.std.specs.Prelude.{◌≡◌, ◌+◌, ◌<◌, get_or};
 ghost use Rattle.meaning.specs.Limits.{most_nodes};
 ghost use Rattle.meaning.specs.Folding.{LabLe, TagLe};

@@ -1,6 +1,4 @@
 -- A row fits another where its label and its marks do.
-use borrow.Author.Tests.{not-true, not-false}
-use borrow.Author.Rules.{rules}
 use Rattle.onto.specs.Onto.{not_so}
 use Rattle.onto.proofs.Onto.{yes_told, no_told, same_tells}
 use Rattle.onto.proofs.fits.Goals as goal

@@ -1,6 +1,5 @@
 -- A row that has gone is fitted by no row.
 use mathlib.Core.Path.{sym, ◌∙◌}
-use borrow.Author.Rules.{rules}
 use Rattle.onto.specs.Onto.{not_so}
 use Rattle.onto.proofs.Left.{not_both}
 use Rattle.onto.proofs.Onto.{rest_tells}

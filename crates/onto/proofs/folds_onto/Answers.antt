@@ -1,6 +1,4 @@
 -- A row folds onto another where it fits it and what is below it folds.
-use borrow.Author.Tests.{not-true, not-false}
-use borrow.Author.Rules.{rules}
 use Rattle.onto.specs.Onto.{not_so}
 use Rattle.onto.proofs.Onto.{yes_told, no_told, rest_tells}
 use Rattle.onto.proofs.folds_onto.Goals as goal

@@ -1,5 +1,4 @@
 -- Row u has gone where the bit of its mark says so.
-use borrow.Author.Rules.{rules}
 use Rattle.onto.proofs.is_gone.Goals as goal
 
 pub returns : goal.returns
