@@ -1,6 +1,7 @@
 // The children of one row folded to the end: they are listed, each that folds onto another one goes, and the search goes on from its place.
 // A row goes, with all below it, by a bit of its mark.
 #![tactic(auto)]
+
 ghost use Rattle.std.specs.Prelude.{◌≡◌, ◌+◌, ◌<◌, ◌≤◌, length, get_or};
 ghost use Rattle.meaning.specs.Limits.{most_nodes};
 ghost use Rattle.onto.specs.Left.{nodes};
