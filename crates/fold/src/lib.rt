@@ -1,5 +1,6 @@
 // Folding rows in image order to the end, and the rows that are left put together.
 #![tactic(auto)]
+
 ghost use Rattle.std.specs.Prelude.{◌≡◌, ◌⊎◌, ◌<◌, ◌≤◌, length, get_or};
 ghost use Rattle.meaning.specs.Limits.{most_nodes};
 ghost use Rattle.rows.specs.Rows.{no_row};
