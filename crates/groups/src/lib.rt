@@ -1,6 +1,7 @@
 // Bytes into a lent room: one byte, or a number "in seven-bit groups, the shortest writing". Each of these functions says where the next byte goes;
 // a writer keeps that place beside the room.
 #![tactic(auto)]
+
 ghost use Rattle.std.specs.Prelude.{◌≡◌, [], ◌∷◌, ◌+◌, ◌<◌, ◌≤◌, length};
 ghost use Rattle.meaning.specs.Number.{num};
 ghost use Rattle.groups.specs.Put.{put};

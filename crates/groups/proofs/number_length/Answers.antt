@@ -1,9 +1,7 @@
 -- As long as groups are left, they and the bytes counted make up the number's bytes.
-use mathlib.Core.Path.{◌≡◌, ap}
-use Prim.Native.Nat.{suc, ◌+◌, ◌≤◌}
+use mathlib.Core.Path.{ap}
 use native.Mathlib.Omega.{arith}
 use lib.ListN.{length}
-use Rattle.meaning.specs.Number.{num}
 use Rattle.theory.proofs.Numbers.{num_one}
 use Rattle.groups.proofs.Number.{num_more}
 use Rattle.groups.proofs.number_length.Goals as goal

@@ -1,11 +1,8 @@
 -- As long as groups are left, they and the bytes counted make up the number's bytes.
-use mathlib.Core.Path.{◌≡◌, ap}
+use mathlib.Core.Path.{◌≡◌}
 use Prim.Native.Nat.{suc, ◌+◌, ◌≤◌}
-use native.Mathlib.Omega.{arith}
 use lib.ListN.{length}
 use Rattle.meaning.specs.Number.{num}
-use Rattle.theory.proofs.Numbers.{num_one}
-use Rattle.groups.proofs.Number.{num_more}
 use Rattle.groups.proofs.number_length.Given as goal
 
 abbrev pub invariant-loop-rest : goal.invariant-loop-rest

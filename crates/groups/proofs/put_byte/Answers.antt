@@ -1,8 +1,7 @@
 -- A byte is a run of bytes of its own.
 use mathlib.Core.Path.{refl, sym}
 use Rattle.groups.proofs.Put.{put_one}
-use borrow.Author.Rules.{rules}
 use Rattle.groups.proofs.put_byte.Goals as goal
 
 pub returns : goal.returns
-returns c = (refl, sym (put_one _ _ _))
+returns c = record { value = refl; out_after = sym (put_one _ _ _) }

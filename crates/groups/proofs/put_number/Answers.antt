@@ -1,9 +1,8 @@
 -- What is left of the number, written into the room as it is now, gives the room that is owed.
-use mathlib.Core.Path.{◌≡◌, refl, sym, ap, ◌∙◌}
+use mathlib.Core.Path.{refl, sym, ap, ◌∙◌}
 use mathlib.Core.List.{[], ◌∷◌}
 use Prim.Native.Nat.{◌+◌, ◌/◌, ◌%◌}
 use native.Mathlib.Omega.{arith}
-use borrow.Author.Rules.{rules}
 use lib.ListN.{length}
 use Rattle.meaning.specs.Number.{num}
 use Rattle.theory.proofs.Numbers.{num_one}
@@ -31,8 +30,8 @@ pub loop-rest-preserved : goal.loop-rest-preserved
 loop-rest-preserved c =
     let m = num_more c.loop-rest.rest c.loop-rest-test.true in
     let p = c.put_byte-place in (
-      put_then c.loop-rest.out p.new.out.0 c.loop-rest.place p.result ((128 + c.loop-rest.rest % 128) ∷ []) (num (c.loop-rest.rest / 128))
-          p.ensures.1 p.ensures.0 ∙ ap (put c.loop-rest.out c.loop-rest.place) (sym m) ∙ c.loop-rest.invariant.0,
+      put_then c.loop-rest.out p.new.out c.loop-rest.place p.result ((128 + c.loop-rest.rest % 128) ∷ []) (num (c.loop-rest.rest / 128))
+          p.ensures.out_after p.ensures.value ∙ ap (put c.loop-rest.out c.loop-rest.place) (sym m) ∙ c.loop-rest.invariant.0,
       omega (arith, ap length m),
       omega arith,
     )
@@ -46,4 +45,4 @@ put_byte-requires c = omega (arith, ap length (num_one _ c.loop-rest-test.false)
 pub returns : goal.returns
 returns c =
     let m = num_one c.loop-rest.rest c.loop-rest-test.false in
-    let p = c.put_byte in (omega (arith, ap length m), p.ensures.1 ∙ ap (put c.loop-rest.out c.loop-rest.place) (sym m) ∙ c.loop-rest.invariant.0)
+    let p = c.put_byte in record { value = omega (arith, ap length m); out_after = p.ensures.out_after ∙ ap (put c.loop-rest.out c.loop-rest.place) (sym m) ∙ c.loop-rest.invariant.0 }

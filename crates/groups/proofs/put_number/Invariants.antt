@@ -1,15 +1,9 @@
 -- What is left of the number, written into the room as it is now, gives the room that is owed.
-use mathlib.Core.Path.{◌≡◌, refl, sym, ap, ◌∙◌}
-use mathlib.Core.List.{[], ◌∷◌}
-use Prim.Native.Nat.{◌+◌, ◌/◌, ◌%◌}
-use native.Mathlib.Omega.{arith}
-use borrow.Author.Rules.{rules}
+use mathlib.Core.Path.{◌≡◌}
+use Prim.Native.Nat.{◌+◌}
 use lib.ListN.{length}
 use Rattle.meaning.specs.Number.{num}
-use Rattle.theory.proofs.Numbers.{num_one}
 use Rattle.groups.specs.Put.{put}
-use Rattle.groups.proofs.Number.{num_more}
-use Rattle.groups.proofs.Put.{put_then}
 use Rattle.groups.proofs.put_number.Given as goal
 
 abbrev pub invariant-loop-rest : goal.invariant-loop-rest
