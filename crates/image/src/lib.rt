@@ -2,6 +2,7 @@
 // goes on with its children's records, and these are the rows that follow.
 // The length is a function of its own: a room that is too short is refused before its first byte is written.
 #![tactic(auto)]
+
 ghost use Rattle.std.specs.Prelude.{◌≡◌, ◌+◌, ◌≤◌, length};
 ghost use Rattle.meaning.specs.Limits.{most_nodes};
 ghost use Rattle.groups.specs.Put.{put, Written};

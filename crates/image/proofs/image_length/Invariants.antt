@@ -1,0 +1,13 @@
+-- The bytes counted and those of the rows that are left make up the image's.
+use mathlib.Core.Path.{◌≡◌}
+use Prim.Native.Nat.{◌+◌, ◌-◌, ◌*◌, ◌≤◌}
+use lib.ListN.{length}
+use Rattle.image.specs.Listing.{listing}
+use Rattle.image.proofs.Listing.{left}
+use Rattle.image.proofs.image_length.Given as goal
+
+abbrev pub invariant-loop-u : goal.invariant-loop-u
+invariant-loop-u l = (l.u ≤ l.n) × (l.bytes ≤ 5 + 15 * l.u) × (l.bytes + length (left l.code l.mark l.kids l.n l.u) ≡ length (listing l.code l.mark l.kids l.n))
+
+abbrev pub decreases-loop-u : goal.decreases-loop-u
+decreases-loop-u l = l.n - l.u
