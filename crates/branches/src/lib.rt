@@ -1,6 +1,7 @@
 // Branches and a node's own factors, written into the caller's room. Factors are joined from the left: the first of them went to place `from`, so a
 // factor that goes to a later place is followed by the sign 4.
 #![tactic(auto)]
+
 ghost use Rattle.std.specs.Prelude.{suc, ◌+◌, ◌<◌, ◌≤◌, length, get_or, ltb};
 ghost use Rattle.meaning.specs.Limits.{most_nodes};
 ghost use Rattle.meaning.specs.Number.{num, largest_label};
