@@ -1,13 +1,7 @@
 -- The loop climbs level by level: `Climb`. Each level takes a row out, so the number of rows falls.
 use mathlib.Core.Path.{◌∙◌}
 use native.Mathlib.Omega.{arith}
-use borrow.Author.Rules.{rules}
-use Rattle.glue.proofs.Climb.{Climb, climb_start, climb_row, climb_asks, climb_same, climb_next, climb_ends, climb_fails}
-use Rattle.glue.proofs.levels.glue_rows.Reads as reads
-use Rattle.glue.proofs.levels.glue_rows.Lts as lts
-use Rattle.glue.proofs.levels.failed.Reads as failed-reads
-use Rattle.glue.proofs.levels.glue_level.Reads as glue-level-reads
-use Rattle.glue.proofs.levels.renumbered.Reads as renumbered-reads
+use Rattle.glue.proofs.Climb.{climb_start, climb_row, climb_asks, climb_same, climb_next, climb_ends, climb_fails}
 use Rattle.glue.proofs.levels.glue_rows.Goals as goal
 
 pub loop-x-init : goal.loop-x-init
@@ -25,31 +19,31 @@ loop-x-smaller c = let lt = climb_row _ _ _ _ _ _ c.loop-x.invariant in rw c.ren
 pub loop-x-preserved : goal.loop-x-preserved
 loop-x-preserved c =
     let g = c.glue_level-level in rw c.renumbered-r.ensures
-    (climb_next _ _ _ _ _ _ c.loop-x.invariant _ _ _ g.ensures _ _ c.level-1.given.1 g.auto.parent g.auto.label.0)
+    (climb_next _ _ _ _ _ _ c.loop-x.invariant _ _ _ g.ensures _ _ c.in-Next.is g.auto.parent g.auto.label)
 
 pub shape_of-parent-in-Ends : goal.shape_of-parent-in-Ends
 shape_of-parent-in-Ends c = c.glue_level-level.auto.parent ∙ c.loop-x.invariant.len_p
 
 pub shape_of-label-in-Ends : goal.shape_of-label-in-Ends
-shape_of-label-in-Ends c = c.glue_level-level.auto.label.0 ∙ c.loop-x.invariant.len_l
+shape_of-label-in-Ends c = c.glue_level-level.auto.label ∙ c.loop-x.invariant.len_l
 
 pub returns-in-Ends : goal.returns-in-Ends
 returns-in-Ends c =
     rw c.renumbered-r.ensures
     (climb_ends _ _ _ _ _ _ c.loop-x.invariant _ _ _
     c.glue_level-level.ensures
-    c.loop-x-test.true c.enum_told-1.given.1)
+    c.loop-x-test.true c.in-Ends.is)
 
 pub shape_of-parent-in-Fails : goal.shape_of-parent-in-Fails
 shape_of-parent-in-Fails c = c.glue_level-level.auto.parent ∙ c.loop-x.invariant.len_p
 
 pub shape_of-label-in-Fails : goal.shape_of-label-in-Fails
-shape_of-label-in-Fails c = c.glue_level-level.auto.label.0 ∙ c.loop-x.invariant.len_l
+shape_of-label-in-Fails c = c.glue_level-level.auto.label ∙ c.loop-x.invariant.len_l
 
 pub returns-in-Fails : goal.returns-in-Fails
 returns-in-Fails c =
     rw c.failed.ensures
-    (climb_fails _ _ _ _ _ _ c.loop-x.invariant _ _ _ c.glue_level-level.ensures c.enum_told-in-Fails-1.given.1)
+    (climb_fails _ _ _ _ _ _ c.loop-x.invariant _ _ _ c.glue_level-level.ensures c.in-Fails.is)
 
 pub shape_of-parent : goal.shape_of-parent
 shape_of-parent c = c.loop-x.invariant.len_p

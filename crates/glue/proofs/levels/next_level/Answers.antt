@@ -1,10 +1,5 @@
 -- One law for each way out.
-use borrow.Author.Rules.{rules}
 use Rattle.rows.proofs.Table.{parent_none, parent_some}
-use Rattle.glue.proofs.levels.next_level.Reads as reads
-use Rattle.glue.proofs.levels.next_level.Lts as lts
-use Rattle.glue.proofs.merging.renumber.Reads as renumber-reads
-use Rattle.rows.proofs.wide.Reads as wide-reads
 use Rattle.glue.proofs.levels.next_level.Goals as goal
 
 pub returns-then-u-eq-NO_ROW : goal.returns-then-u-eq-NO_ROW

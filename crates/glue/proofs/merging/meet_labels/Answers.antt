@@ -1,8 +1,6 @@
 -- One law for each way out.
 use native.Mathlib.Omega.{arith}
 use Rattle.glue.proofs.Codes.{meet_any_first, meet_any_second, meet_same, meet_clash}
-use Rattle.glue.proofs.merging.meet_labels.Reads as reads
-use Rattle.glue.proofs.merging.meet_labels.Lts as lts
 use Rattle.glue.proofs.merging.meet_labels.Goals as goal
 
 pub returns-then-l-eq0 : goal.returns-then-l-eq0

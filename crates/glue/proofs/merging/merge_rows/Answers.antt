@@ -2,23 +2,16 @@
 use mathlib.Core.Path.{refl, ◌∙◌}
 use native.Mathlib.Omega.{arith}
 use lib.ListN.{length-set}
-use borrow.Author.Rules.{rules}
 use Rattle.glue.proofs.Merged.{moved_row, merged_end}
-use Rattle.glue.proofs.merging.merge_rows.Reads as reads
-use Rattle.glue.proofs.merging.merge_rows.Lts as lts
-use Rattle.glue.proofs.merging.pull_labels.Reads as pull-labels-reads
-use Rattle.glue.proofs.merging.relink_rows.Reads as relink-rows-reads
-use Rattle.glue.proofs.merging.relinked.Reads as relinked-reads
-use Rattle.glue.proofs.merging.renumber.Reads as renumber-reads
 use Rattle.glue.proofs.merging.merge_rows.Goals as goal
 
 pub offset_bounds-parent-z : goal.offset_bounds-parent-z
 offset_bounds-parent-z c =
-    let w = moved_row _ c.args.y c.args.n _ c.renumber-z.ensures c.requires.0.3 (omega arith) (omega arith) in omega arith
+    let w = moved_row _ c.args.y c.args.n _ c.renumber-z.ensures c.requires.from_le_y.3 (omega arith) (omega arith) in omega arith
 
 pub bounds-parent-z : goal.bounds-parent-z
 bounds-parent-z c =
-    let w = moved_row _ c.args.y c.args.n _ c.renumber-z.ensures c.requires.0.3 (omega arith) (omega arith) in omega (
+    let w = moved_row _ c.args.y c.args.n _ c.renumber-z.ensures c.requires.from_le_y.3 (omega arith) (omega arith) in omega (
       arith,
       c.relink_rows-2.ensures.same,
       c.relink_rows.ensures.same,
@@ -26,16 +19,16 @@ bounds-parent-z c =
 
 pub offset_bounds-label-z : goal.offset_bounds-label-z
 offset_bounds-label-z c =
-    let w = moved_row _ c.args.y c.args.n _ c.renumber-z.ensures c.requires.0.3 (omega arith) (omega arith) in omega arith
+    let w = moved_row _ c.args.y c.args.n _ c.renumber-z.ensures c.requires.from_le_y.3 (omega arith) (omega arith) in omega arith
 
 pub bounds-label-z : goal.bounds-label-z
 bounds-label-z c =
-    let w = moved_row _ c.args.y c.args.n _ c.renumber-z.ensures c.requires.0.3 (omega arith) (omega arith) in omega (arith, c.pull_labels.ensures.same)
+    let w = moved_row _ c.args.y c.args.n _ c.renumber-z.ensures c.requires.from_le_y.3 (omega arith) (omega arith) in omega (arith, c.pull_labels.ensures.same)
 
 pub shape_of-parent : goal.shape_of-parent
 shape_of-parent c =
-    length-set c.relink_rows-2.new.parent.0 c.renumber-z.result c.relinked.result ∙ c.relink_rows-2.ensures.same ∙ c.relink_rows.ensures.same
+    length-set c.relink_rows-2.new.parent c.renumber-z.result c.relinked.result ∙ c.relink_rows-2.ensures.same ∙ c.relink_rows.ensures.same
 
 pub returns : goal.returns
 returns c =
-    merged_end _ _ _ _ _ _ _ _ _ c.requires.1 c.relink_rows.ensures c.relink_rows-2.ensures c.pull_labels.ensures _ _ _ _ _ refl c.requires.0.0 c.requires.0.3 (omega arith) (omega arith) (omega arith) (omega arith) c.renumber-z.ensures c.relinked.ensures
+    merged_end _ _ _ _ _ _ _ _ _ c.requires.by_index c.relink_rows.ensures c.relink_rows-2.ensures c.pull_labels.ensures _ _ _ _ _ refl c.requires.from_le_y.0 c.requires.from_le_y.3 (omega arith) (omega arith) (omega arith) (omega arith) c.renumber-z.ensures c.relinked.ensures

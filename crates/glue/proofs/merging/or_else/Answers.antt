@@ -1,8 +1,6 @@
 -- One law for each way out.
 use native.Mathlib.Omega.{arith}
 use Rattle.glue.proofs.Codes.{or_else_none, or_else_some}
-use Rattle.glue.proofs.merging.or_else.Reads as reads
-use Rattle.glue.proofs.merging.or_else.Lts as lts
 use Rattle.glue.proofs.merging.or_else.Goals as goal
 
 pub returns-then-u-eq-NO_ROW : goal.returns-then-u-eq-NO_ROW

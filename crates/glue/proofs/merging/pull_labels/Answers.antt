@@ -1,12 +1,7 @@
 -- The loop takes one label after the other: `Swept`.
-use mathlib.Core.Path.{◌≡◌, refl}
-use Prim.Native.Nat.{◌≤◌, ◌-◌}
+use mathlib.Core.Path.{refl}
 use native.Mathlib.Omega.{arith}
-use borrow.Author.Rules.{rules}
-use Rattle.glue.specs.Rows.{Swept}
 use Rattle.glue.proofs.Sweeping.{swept_start, swept_more, swept_end}
-use Rattle.glue.proofs.merging.pull_labels.Reads as reads
-use Rattle.glue.proofs.merging.pull_labels.Lts as lts
 use Rattle.glue.proofs.merging.pull_labels.Goals as goal
 
 pub loop-i-init : goal.loop-i-init

@@ -1,10 +1,7 @@
 -- A top has no link; any other link stays below 65,535, since x does. One law for each way out.
 use native.Mathlib.Omega.{arith}
-use borrow.Author.Rules.{rules}
 use Rattle.glue.proofs.Codes.{relinked_none}
 use Rattle.glue.proofs.Merged.{hit_high, hit_low, miss_high, miss_low, moved_link}
-use Rattle.glue.proofs.merging.relinked.Reads as reads
-use Rattle.glue.proofs.merging.relinked.Lts as lts
 use Rattle.glue.proofs.merging.relinked.Goals as goal
 
 pub returns-then-y-x : goal.returns-then-y-x

@@ -1,10 +1,6 @@
 -- As the definition goes: x for y first, and then one less behind y.
 use native.Mathlib.Omega.{arith}
-use borrow.Author.Rules.{rules}
 use Rattle.glue.proofs.Merged.{moved_falls, moved_stays}
-use Rattle.glue.proofs.merging.renumber.Reads as reads
-use Rattle.glue.proofs.merging.renumber.Lts as lts
-use Rattle.glue.proofs.merging.stand_in.Reads as stand-in-reads
 use Rattle.glue.proofs.merging.renumber.Goals as goal
 
 pub returns-then-y-j : goal.returns-then-y-j

@@ -3,8 +3,6 @@ use mathlib.Core.Path.{sym}
 use native.Mathlib.Decide.{ℕ_discrete}
 use native.Mathlib.Omega.{arith}
 use Rattle.theory.proofs.Look.{pick_yes, pick_no}
-use Rattle.glue.proofs.merging.stand_in.Reads as reads
-use Rattle.glue.proofs.merging.stand_in.Lts as lts
 use Rattle.glue.proofs.merging.stand_in.Goals as goal
 
 pub returns-then-i-y : goal.returns-then-i-y

@@ -3,34 +3,28 @@ use native.Mathlib.Omega.{arith}
 use Rattle.rows.proofs.Table.{live_below}
 use Rattle.glue.proofs.Shift.{links_small}
 use Rattle.glue.proofs.TwoTrees.{across_safe, across_end}
-use borrow.Author.Rules.{rules}
-use Rattle.glue.proofs.trees.glue_across.Reads as reads
-use Rattle.glue.proofs.trees.glue_across.Lts as lts
-use Rattle.glue.proofs.levels.glue_rows.Reads as glue-rows-reads
-use Rattle.glue.proofs.trees.meeting.Reads as meeting-reads
-use Rattle.glue.proofs.trees.shift_rows.Reads as shift-rows-reads
 use Rattle.glue.proofs.trees.glue_across.Goals as goal
 
 pub shift_rows-requires : goal.shift_rows-requires
 shift_rows-requires c =
-    let f = c.requires.0 in ((f.small, f.parents), links_small _ _ _ c.requires.1.1.tree (let s = f.small in omega arith))
+    let f = c.requires.rows_fit in record { nb_bound = (f.small, f.parents); by_index = links_small _ _ _ c.requires.tree_query.1.tree (let s = f.small in omega arith) }
 
 pub overflow_add-t-2 : goal.overflow_add-t-2
 overflow_add-t-2 c =
-    let r = c.requires.0.small in let m = live_below _ _ _ _ c.requires.1.1.d_live in omega arith
+    let r = c.requires.rows_fit.small in let m = live_below _ _ _ _ c.requires.tree_query.1.d_live in omega arith
 
 pub overflow_add-na : goal.overflow_add-na
 overflow_add-na c =
-    let r = c.requires.0.small in let m = live_below _ _ _ _ c.requires.1.1.s_live in omega arith
+    let r = c.requires.rows_fit.small in let m = live_below _ _ _ _ c.requires.tree_query.1.s_live in omega arith
 
 pub glue_rows-requires : goal.glue_rows-requires
 glue_rows-requires c =
-    let f = c.requires.0 in let s = c.shift_rows in let k = s.auto.parent in (
+    let f = c.requires.rows_fit in let s = c.shift_rows in let k = s.auto.parent in (
       record { small = f.small; parents = omega arith; labels = f.labels },
-      across_safe _ _ _ _ c.requires.1.0 c.requires.1.1 s.new.parent.0 (s.ensures c.args.label.now) c.args.both _ c.meeting.ensures,
+      across_safe _ _ _ _ c.requires.tree_query.0 c.requires.tree_query.1 s.new.parent (s.ensures c.args.label.now) c.args.both _ c.meeting.ensures,
     )
 
 pub returns : goal.returns
 returns c =
-    let s = c.shift_rows in let g = c.glue_rows in let v = c.requires.1 in across_end _ _ _ _ v.0 v.1 s.new.parent.0 (s.ensures c.args.label.now) c.args.both _ c.meeting.ensures
-    g.result g.new.parent g.new.label.0 g.ensures
+    let s = c.shift_rows in let g = c.glue_rows in let v = c.requires.tree_query in across_end _ _ _ _ v.0 v.1 s.new.parent (s.ensures c.args.label.now) c.args.both _ c.meeting.ensures
+    g.result g.new.parent g.new.label g.ensures

@@ -1,11 +1,6 @@
 -- Different depths give empty; equal depths are glued.
 use Rattle.glue.proofs.Shift.{links_in}
 use Rattle.glue.proofs.TwoTrees.{in_tree, within_empty, within_safe, within_none, within_end}
-use borrow.Author.Rules.{rules}
-use Rattle.glue.proofs.trees.glue_within.Reads as reads
-use Rattle.glue.proofs.trees.glue_within.Lts as lts
-use Rattle.glue.proofs.levels.glue_rows.Reads as glue-rows-reads
-use Rattle.glue.proofs.trees.depth_of.Reads as depth-of-reads
 use Rattle.glue.proofs.trees.glue_within.Goals as goal
 
 pub returns-then-n-eq0 : goal.returns-then-n-eq0
@@ -26,11 +21,10 @@ returns-then-a-b c =
     within_none _ _ _ c.if-n-eq0.false c.requires.1 _ _ (c.depth_of-a.ensures _) (c.depth_of-b.ensures _) c.if-a-b.true
 
 pub glue_rows-r-requires : goal.glue_rows-r-requires
-glue_rows-r-requires c =
-    (
-      c.requires.0,
-      within_safe _ _ _ c.if-n-eq0.false c.requires.1 _ _ (c.depth_of-a.ensures _) (c.depth_of-b.ensures _) c.if-a-b.false,
-    )
+glue_rows-r-requires c = (
+  c.requires.0,
+  within_safe _ _ _ c.if-n-eq0.false c.requires.1 _ _ (c.depth_of-a.ensures _) (c.depth_of-b.ensures _) c.if-a-b.false,
+)
 
 pub returns : goal.returns
 returns c =
@@ -38,4 +32,4 @@ returns c =
     c.requires.1
     _ _ (c.depth_of-a.ensures _)
     (c.depth_of-b.ensures _)
-    c.if-a-b.false g.result g.new.parent g.new.label.0 g.ensures
+    c.if-a-b.false g.result g.new.parent g.new.label g.ensures

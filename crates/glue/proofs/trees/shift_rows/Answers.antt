@@ -1,21 +1,15 @@
 -- The loop shifts the links of the second table: `Swept`.
-use mathlib.Core.Path.{◌≡◌, refl}
-use Prim.Native.Nat.{◌≤◌, ◌-◌, ◌+◌}
+use mathlib.Core.Path.{refl}
 use native.Mathlib.Omega.{arith}
-use borrow.Author.Rules.{rules}
-use Rattle.glue.specs.Rows.{Relinked, Swept}
 use Rattle.glue.proofs.Sweeping.{swept_start, swept_end, here_more}
 use Rattle.glue.proofs.Shift.{shift_small, shift_end}
-use Rattle.glue.proofs.trees.shift_rows.Reads as reads
-use Rattle.glue.proofs.trees.shift_rows.Lts as lts
-use Rattle.glue.proofs.trees.shifted.Reads as shifted-reads
 use Rattle.glue.proofs.trees.shift_rows.Goals as goal
 
 pub loop-i-init : goal.loop-i-init
 loop-i-init c = (omega arith, omega arith, refl, swept_start _ _ _ _)
 
 pub shifted-p-requires : goal.shifted-p-requires
-shifted-p-requires c = (omega arith, shift_small _ _ _ _ _ c.loop-i.invariant.3 c.loop-i.invariant.0 c.loop-i-test.true c.requires.1)
+shifted-p-requires c = (omega arith, shift_small _ _ _ _ _ c.loop-i.invariant.3 c.loop-i.invariant.0 c.loop-i-test.true c.requires.by_index)
 
 pub loop-i-preserved : goal.loop-i-preserved
 loop-i-preserved c =

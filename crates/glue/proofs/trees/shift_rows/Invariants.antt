@@ -1,14 +1,7 @@
 -- The loop shifts the links of the second table: `Swept`.
-use mathlib.Core.Path.{◌≡◌, refl}
+use mathlib.Core.Path.{◌≡◌}
 use Prim.Native.Nat.{◌≤◌, ◌-◌, ◌+◌}
-use native.Mathlib.Omega.{arith}
-use borrow.Author.Rules.{rules}
 use Rattle.glue.specs.Rows.{Relinked, Swept}
-use Rattle.glue.proofs.Sweeping.{swept_start, swept_end, here_more}
-use Rattle.glue.proofs.Shift.{shift_small, shift_end}
-use Rattle.glue.proofs.trees.shift_rows.Reads as reads
-use Rattle.glue.proofs.trees.shift_rows.Lts as lts
-use Rattle.glue.proofs.trees.shifted.Reads as shifted-reads
 use Rattle.glue.proofs.trees.shift_rows.Given as goal
 
 abbrev pub invariant-loop-i : goal.invariant-loop-i

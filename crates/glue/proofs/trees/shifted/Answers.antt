@@ -3,8 +3,6 @@ use mathlib.Core.Path.{refl}
 use native.Mathlib.Omega.{arith}
 use Rattle.glue.proofs.Codes.{relinked_none, relinked_some}
 use Rattle.glue.proofs.Shift.{shifted_small}
-use Rattle.glue.proofs.trees.shifted.Reads as reads
-use Rattle.glue.proofs.trees.shifted.Lts as lts
 use Rattle.glue.proofs.trees.shifted.Goals as goal
 
 pub returns-then-p-eq-NO_ROW : goal.returns-then-p-eq-NO_ROW
