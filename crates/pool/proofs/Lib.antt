@@ -5,5 +5,4 @@ mod Parts
 mod Laying
 mod Taking
 mod Reading
-mod Lent
 pub mod Unique

@@ -1,14 +1,11 @@
 -- The table of signs: the steps and the plain tree query of what each sign makes.
 use mathlib.Core.Path.{◌≡◌, refl, subst}
-use mathlib.Core.Logic.{⊎_elim}
+use mathlib.Core.Logic.{◌≢◌}
 use mathlib.Core.Bool.{Bool, true, false, cond}
 use mathlib.Core.Option.{Option, none, some}
-use mathlib.Core.List.{[], ◌∷◌}
 use Prim.Native.Nat.{ℕ, zero, suc, ◌+◌, ◌-◌, ◌≤◌}
 use native.Mathlib.Omega.{arith}
 use lib.Dec.{eqb}
-use types.Run.{OneOf}
-use denote.Enum.Declared.{tag_of}
 use borrow.Author.Tests.{ne_eqb}
 use Rattle.meaning.specs.Basics.{mapped}
 use Rattle.meaning.specs.Expression.{Expr, steps}
@@ -20,7 +17,6 @@ use Rattle.word.specs.Sign.{kind_by, kind_of}
 use Rattle.word.specs.declared.sign.Kind.{Kind}
 use Rattle.word.specs.declared.sign.Kind.TheVariants.{Operand, Step, Unary, Binary}
 use Rattle.word.proofs.Signs.{sign_label}
-use Rattle.word.specs.contracts.sign.Kind as K
 use Rattle.glue.specs.Trees.{chosen}
 
 -- ------------------------------------------------------------------ what a sign makes
@@ -83,8 +79,8 @@ of_kind v k q = rw q (go (sign_of v) (is_step v))
     go (binary f) b = (f, refl)
 
 -- neither an operator on one nor on two
-pub operand_kind : (v : ℕ) (k : Kind) → k ≡ kind_of v → OneOf (0 ∷ 1 ∷ []) (tag_of K.the_type k) → (e : Expr) × (sign_of v ≡ operand e)
-operand_kind v Operand q h = of_kind v Operand q
-operand_kind v Step q h = of_kind v Step q
-operand_kind v Unary q h = absurd (⊎_elim (λ e. omega arith) (λ e. omega arith) h)
-operand_kind v Binary q h = absurd (⊎_elim (λ e. omega arith) (λ e. omega arith) h)
+pub operand_kind : (v : ℕ) (k : Kind) → k ≡ kind_of v → k ≢ Unary → k ≢ Binary → (e : Expr) × (sign_of v ≡ operand e)
+operand_kind v Operand q u b = of_kind v Operand q
+operand_kind v Step q u b = of_kind v Step q
+operand_kind v Unary q u b = absurd (u refl)
+operand_kind v Binary q u b = absurd (b refl)

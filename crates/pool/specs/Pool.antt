@@ -2,7 +2,7 @@
 -- entries k of `s` and `d`, and its links count from its own first row. An operand without rows is empty.
 use Rattle.std.specs.Prelude.{◌≡◌, List, [], ◌∷◌, map, ℕ, zero, suc, ◌+◌, ◌-◌, ◌≤◌, ◌<◌, length, get_or}
 use Rattle.std.proofs.Math.Option.{Option}
-use Rattle.meaning.specs.Expression.{Expr, steps}
+use Rattle.meaning.specs.Expression.{Expr}
 use Rattle.meaning.specs.TreeQuery.{Query}
 use Rattle.meaning.specs.Gluing.{plain}
 use Rattle.meaning.specs.Limits.{most_pending, most_steps}

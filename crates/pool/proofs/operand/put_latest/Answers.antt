@@ -1,0 +1,6 @@
+-- Three numbers are stored.
+use mathlib.Core.Path.{refl}
+use Rattle.pool.proofs.operand.put_latest.Goals as goal
+
+pub returns : goal.returns
+returns c = (refl, rw (c.set_link.ensures, c.link.ensures.0) refl, refl, refl)
