@@ -1,6 +1,7 @@
 // From an accepted word to the rows of its plain or of its minimal tree. What gluing works in is lent on to what comes after it: clearing a table
 // takes longer than most of the work on a short word.
 #![tactic(auto)]
+
 ghost use Rattle.rows.specs.Rows.{Room};
 ghost use Rattle.meaning.specs.Gluing.{plain};
 ghost use Rattle.rows.specs.Table.{image_tree};

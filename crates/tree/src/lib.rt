@@ -1,6 +1,7 @@
 // From a table that is a tree query to its rows in image order: the plain tree, and the minimal tree. No rows: empty.
 // What a caller has read, in whatever language, it puts into such a table. The tables to work in are lent, so that a caller may use them before.
 #![tactic(auto)]
+
 ghost use Rattle.std.specs.Prelude.{◌≡◌, List, ℕ, suc, ◌<◌, ◌≤◌, length, get_or};
 ghost use Rattle.meaning.specs.Limits.{most_nodes};
 ghost use Rattle.meaning.specs.Tree.{plain_tree};
