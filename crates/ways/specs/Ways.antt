@@ -4,7 +4,6 @@ use Rattle.meaning.specs.Limits.{most_nodes}
 use Rattle.meaning.specs.Expression.{Expr, child}
 use Rattle.meaning.specs.Tree.{Forest, bare, tree, Tag}
 use Rattle.meaning.specs.Normal.{labelled, dst_in, off, ups, downs}
-use Rattle.theory.proofs.Count.{dst}
 use Rattle.rows.specs.Rows.{shape, Holds, Rows}
 use Rattle.branches.specs.Factors.{under, own_at}
 

@@ -1,6 +1,7 @@
 // The ways of a normal form over rows in image order, written into the caller's room: up from s to t, the way above t, down to d.
 // The first factor of all goes to place `from` of the room, so a factor that goes to a later place is joined to what stands before it.
 #![tactic(auto)]
+
 ghost use Rattle.std.specs.Prelude.{[], ◌+◌, ◌<◌, ◌≤◌, length};
 ghost use Rattle.meaning.specs.Normal.{above_factor};
 ghost use Rattle.rows.specs.Rows.{below};

@@ -45,4 +45,8 @@ put_byte-requires c = omega (arith, ap length (num_one _ c.loop-rest-test.false)
 pub returns : goal.returns
 returns c =
     let m = num_one c.loop-rest.rest c.loop-rest-test.false in
-    let p = c.put_byte in record { value = omega (arith, ap length m); out_after = p.ensures.out_after ∙ ap (put c.loop-rest.out c.loop-rest.place) (sym m) ∙ c.loop-rest.invariant.0 }
+    let p = c.put_byte in
+    record {
+      value = omega (arith, ap length m);
+      out_after = p.ensures.out_after ∙ ap (put c.loop-rest.out c.loop-rest.place) (sym m) ∙ c.loop-rest.invariant.0;
+    }

@@ -1,0 +1,35 @@
+-- What is left of the way belongs behind what the room has.
+use native.Mathlib.Omega.{arith}
+use Rattle.branches.proofs.Joining.{left_start, left_is, left_end, child_fits, child_step}
+use Rattle.ways.proofs.Writing.{row_part, child_row, child_behind, way_own, way_done, top_row, top_covers, way_nil}
+use Rattle.ways.proofs.way.Goals as goal
+
+pub loop-x-init : goal.loop-x-init
+loop-x-init c = let (R, f) = c.requires in (top_row R, top_covers R, left_start (omega arith) f)
+
+pub child_to-c-requires : goal.child_to-c-requires
+child_to-c-requires c = let (R, v, L) = c.loop-x.invariant in (row_part R, omega (arith, v.from, c.loop-x-test.true), v)
+
+pub own-end-requires : goal.own-end-requires
+own-end-requires c =
+    let (R, v, L) = c.loop-x.invariant in
+    let (a, w) = c.child_to-c.ensures in
+    (R, L.reached, way_own R a w v c.loop-x-test.true L)
+
+pub put_sign-at-requires : goal.put_sign-at-requires
+put_sign-at-requires c =
+    let (R, v, L) = c.loop-x.invariant in
+    let (a, w) = c.child_to-c.ensures in
+    child_fits (way_done R a w v c.loop-x-test.true L c.own-end.ensures)
+
+pub loop-x-smaller : goal.loop-x-smaller
+loop-x-smaller c = let (R, v, L) = c.loop-x.invariant in let (a, w) = c.child_to-c.ensures in omega (arith, child_behind R a w v, w.from)
+
+pub loop-x-preserved : goal.loop-x-preserved
+loop-x-preserved c =
+    let (R, v, L) = c.loop-x.invariant in
+    let (a, w) = c.child_to-c.ensures in
+    (child_row R a w v, w, child_step (way_done R a w v c.loop-x-test.true L c.own-end.ensures) c.put_sign-at.ensures)
+
+pub returns : goal.returns
+returns c = let (R, v, L) = c.loop-x.invariant in left_end (left_is (way_nil R c.loop-x-test.false) L)
