@@ -187,7 +187,7 @@ module _ {code mark kids span up : List ℕ} {n : ℕ} (R : Rows code mark kids 
       let T = rows_top code mark kids span up n R (omega arith) in
       let z : 0 < n = omega arith in
       rw (
-        T.Shape-is,
+        T.shape_is,
         dst_covers code span t t 0 n (row_open R 0 z),
         covers_in span 0 t (omega arith) (omega (arith, T.span_all)),
         own_is R dst_in t t t t (dst_same R t t) 0 z (child ∷ way_to (under code span t t 0)),
