@@ -1,5 +1,3 @@
-mod Lent
-mod Beside
 mod Fitting
 pub mod Forms
 pub mod Unique

@@ -4,7 +4,6 @@ use mathlib.Core.List.{List}
 use Prim.Native.Nat.{ℕ}
 use Rattle.theory.proofs.Look.{never}
 use Rattle.forms.specs.declared.Written.{Written}
-use Rattle.forms.specs.declared.Written.TheVariants as Written
 use Rattle.forms.specs.Form.{written_of, Fitted}
 
 -- an answer is what it stands for

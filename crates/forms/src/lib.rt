@@ -1,6 +1,7 @@
 // The forms of n rows, in a room that the caller lends: the image, plain or minimal as the rows are, or the normal form.
 // The length comes first: a room that is too short is refused before its first byte is written.
 #![tactic(auto)]
+
 ghost use Rattle.std.specs.Prelude.{◌≡◌, ◌+◌, ◌≤◌, length};
 ghost use Rattle.groups.specs.Put.{Written as PutBytes};
 ghost use Rattle.forms.specs.Filled.{filled};
@@ -11,7 +12,7 @@ use limits::refusal::ROOM_TOO_SHORT;
 use rows::{Codes, Links, Marks};
 
 // What is written of a tree.
-#[derive(Drop)]
+#[derive(Clone, Copy)]
 pub enum Form {
     Plain,
     Minimal,
