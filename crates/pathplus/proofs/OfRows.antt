@@ -21,7 +21,6 @@ use Rattle.rows.proofs.Rows.{size_rows}
 use Rattle.normal.specs.Forms.{QueryRows}
 use Rattle.word.specs.Answer.{checked_of, verdict}
 use Rattle.word.specs.declared.whole.Checked.{Checked}
-use Rattle.word.specs.declared.whole.Checked.TheVariants as Checked
 use Rattle.query.specs.Trees.{Accepted, RowsOf}
 use Rattle.forms.specs.declared.Form.{Form}
 use Rattle.forms.specs.declared.Form.TheVariants.{Plain, Minimal, Normal}

@@ -12,7 +12,6 @@ use Rattle.forms.specs.declared.Written.{Written}
 use Rattle.forms.specs.Form.{written_of}
 use Rattle.forms.proofs.Unique.{written_same}
 use Rattle.pathplus.specs.declared.Told.{Told}
-use Rattle.pathplus.specs.declared.Told.TheVariants as Told
 use Rattle.pathplus.specs.Answer.{told_of, number_of, yes_of, WritesC, SelectedC}
 
 -- an answer is what it stands for

@@ -5,7 +5,6 @@ use Rattle.meaning.specs.TreeQuery.{Query}
 use Rattle.meaning.specs.Word.{Outcome, refused, answered}
 use Rattle.meaning.specs.Promise.{Writes, Question, Selected}
 use Rattle.pathplus.specs.declared.Told.{Told}
-use Rattle.pathplus.specs.declared.Told.TheVariants as Told
 
 -- the pair question: yes or no, or a refusal
 abbrev pub told_of : Told → Outcome Bool

@@ -1,6 +1,7 @@
 // The public calls. Each takes any bytes, numbers and lengths, refuses in the order of the specification, and answers by the floors below;
 // nothing of the caller's is touched before the answer is known.
 #![tactic(auto)]
+
 mod entries; // entries.rt: the calls for C
 mod question; // question.rt: whether a word selects a pair
 mod writers; // writers.rt: the images and the normal form of a word

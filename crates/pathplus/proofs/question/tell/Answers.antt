@@ -1,0 +1,20 @@
+-- What the rows take is what the word selects.
+use Rattle.forms.specs.declared.Form.TheVariants.{Minimal}
+use Rattle.pathplus.proofs.Asking.{selects_told}
+use Rattle.pathplus.proofs.OfRows.{query_rows}
+use Rattle.pathplus.proofs.question.tell.Goals as goal
+
+pub taken-requires : goal.taken-requires
+taken-requires c =
+    let (acc, N) = c.requires in
+    (record { kids = _; query = query_rows Minimal c.word_rows-rows.ensures acc }, N)
+
+pub returns-then-taken : goal.returns-then-taken
+returns-then-taken c =
+    let (acc, N) = c.requires in
+    selects_told _ acc.1 N (c.word_rows-rows.ensures.tree acc.0 acc.1) (rw c.if-taken.true at c.taken.ensures)
+
+pub returns : goal.returns
+returns c =
+    let (acc, N) = c.requires in
+    selects_told _ acc.1 N (c.word_rows-rows.ensures.tree acc.0 acc.1) (rw c.if-taken.false at c.taken.ensures)
