@@ -1,0 +1,13 @@
+-- Turn by turn the first i bytes are written.
+use Prim.Native.Nat.{◌-◌}
+use native.Mathlib.Omega.{arith}
+use borrow.Author.Rules.{rules}
+use Rattle.groups.proofs.Put.{written_length}
+use Rattle.report.proofs.Text.{byte_written, bytes_bytewise, Begun, begun_start, begun_fits, begun_next, begun_end}
+use Rattle.report.proofs.put_bytes.Given as goal
+
+abbrev pub invariant-loop-i : goal.invariant-loop-i
+invariant-loop-i l = Begun (λ bs. bs) l.bytes l.initial.text l.at l.text l.place l.i
+
+abbrev pub decreases-loop-i : goal.decreases-loop-i
+decreases-loop-i l = l.i-end - l.i
