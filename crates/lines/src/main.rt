@@ -2,16 +2,21 @@
 // the program writes for its word, or that it is no word. A line that starts with `#` is a comment: it is written again and nothing more.
 #![tactic(auto)]
 ghost use Rattle.std.specs.Prelude.{◌≡◌, ◌+◌, ◌^◌, ◌≤◌, ◌<◌, length};
-ghost use Rattle.io.specs.Counts.{IsPrefixLen};
+ghost use Rattle.streams.specs.Counts.{IsPrefixLen};
 
-use libc::{STDIN_FILENO, STDOUT_FILENO};
 use report::LONGEST_TEXT;
+use std::io;
+use std::io::Write;
+use streams::read_full;
 
 // What stands for a digit where there is none.
 const NO_DIGIT: u8 = 16;
 
 // A byte more than the longest word has: enough for a word to be refused.
 const WORD: usize = 4097;
+
+// As much of standard input as is read.
+const TEXT: usize = 65536;
 
 // The value of a hex digit.
 fn value(c: u8) -> u8
@@ -95,31 +100,36 @@ fn empty_word() -> [u8; WORD]
     [0; WORD]
 }
 
-// What the program writes for the word.
-fn write_text(word: &[u8]) {
-    let mut text = [0u8; LONGEST_TEXT];
-    let length = report::program_text(word, &mut text);
-    io::write_all(STDOUT_FILENO, &text[..length]);
+fn empty_text() -> [u8; TEXT]
+    ensures { 65536 ≡ length result }
+{
+    [0; TEXT]
 }
 
-fn report_line(line: &[u8]) {
+// What the program writes for the word.
+fn write_text<W: Write>(to: &mut W, word: &[u8]) -> io::Result<()> {
+    let mut text = [0u8; LONGEST_TEXT];
+    let length = report::program_text(word, &mut text);
+    to.write_all(&text[..length])
+}
+
+fn report_line<W: Write>(to: &mut W, line: &[u8]) -> io::Result<()> {
     if !is_word(line) {
-        io::write_all(STDOUT_FILENO, b"no word\n");
-        return;
+        return to.write_all(b"no word\n");
     }
     let mut word = empty_word();
     let n = bytes_of(line, &mut word);
-    write_text(&word[..n]);
+    write_text(to, &word[..n])
 }
 
-fn answer_line(line: &[u8])
+fn answer_line<W: Write>(to: &mut W, line: &[u8]) -> io::Result<()>
     requires { 0 < length line.now }
 {
-    io::write_all(STDOUT_FILENO, line);
+    to.write_all(line)?;
     if line[0] == b'#' {
-        return;
+        return Ok(());
     }
-    report_line(line);
+    report_line(to, line)
 }
 
 // The place behind the line that begins at a place.
@@ -137,17 +147,18 @@ fn line_end(text: &[u8], from: usize) -> usize
     at
 }
 
-fn answer_lines(text: &[u8]) {
+fn answer_lines<W: Write>(to: &mut W, text: &[u8]) -> io::Result<()> {
     let mut at: usize = 0;
     while at < text.len() {
         let end = line_end(text, at);
-        answer_line(&text[at..end]);
+        answer_line(to, &text[at..end])?;
         at = end;
     }
+    Ok(())
 }
 
-fn main() {
-    let mut text = io::large_buffer();
-    let n = io::read_full(STDIN_FILENO, &mut text);
-    answer_lines(&text[..n]);
+fn main(rt: HostRuntime) -> io::Result<()> {
+    let mut text = empty_text();
+    let n = read_full(&mut rt.stdin(), &mut text)?;
+    answer_lines(&mut rt.stdout(), &text[..n])
 }

@@ -1,5 +1,6 @@
 // The calls for C, declared in include/pathplus.h: an export for each, with the clauses of the library's own call.
 #![tactic(auto)]
+
 ghost use Rattle.meaning.specs.Image.{plain_image, minimal_image};
 ghost use Rattle.meaning.specs.Normal.{normal_form};
 ghost use Rattle.pathplus.specs.Answer.{question, WritesC, SelectedC};

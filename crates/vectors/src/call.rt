@@ -2,6 +2,8 @@
 ghost use Rattle.std.specs.Prelude.{◌≡◌, length};
 
 use crate::input::{next_bytes, next_length, next_list, next_long, next_number, wide, within};
+use std::io;
+use std::io::Read;
 
 // What a buffer is filled with before the call.
 const FILLED: u8 = 0xA5;
@@ -65,12 +67,17 @@ fn answer_length(res: u64) -> usize {
 }
 
 // Whether one form of the word comes out as told: "u32 room length, u64 result, the answer's bytes if it is no refusal".
-pub fn run_form(left: &mut u64, form: Form, word: &[u8]) -> bool {
-    let room = next_length(left, ROOM);
-    let told = next_long(left);
+pub fn run_form<R: Read>(
+    from: &mut R,
+    left: &mut u64,
+    form: Form,
+    word: &[u8],
+) -> io::Result<bool> {
+    let room = next_length(from, left, ROOM)?;
+    let told = next_long(from, left)?;
     let mut bytes = filled_room();
-    next_bytes(left, &mut bytes, answer_length(told));
-    writes(form, word, room, told, &bytes)
+    next_bytes(from, left, &mut bytes, answer_length(told))?;
+    Ok(writes(form, word, room, told, &bytes))
 }
 
 // Times the prime of FNV-1a, modulo 2^32.
@@ -88,32 +95,45 @@ fn checksum(buffer: &[u8]) -> u32 {
 }
 
 // The pair question: "u64 m, u64 n, u32 workspace length".
-fn asked(left: &mut u64, word: &[u8], parents: &[u32], labels: &[u32], buffer: &mut [u8]) -> u64 {
-    let m = next_long(left);
-    let n = next_long(left);
-    let lent = within(buffer, next_length(left, WORKSPACE));
-    pathplus::pathplus_selects(word, parents, labels, m, n, &mut buffer[..lent])
+fn asked<R: Read>(
+    from: &mut R,
+    left: &mut u64,
+    word: &[u8],
+    parents: &[u32],
+    labels: &[u32],
+    buffer: &mut [u8],
+) -> io::Result<u64> {
+    let m = next_long(from, left)?;
+    let n = next_long(from, left)?;
+    let lent = within(buffer, next_length(from, left, WORKSPACE)?);
+    Ok(pathplus::pathplus_selects(word, parents, labels, m, n, &mut buffer[..lent]))
 }
 
 // Whether the result and the bytes that are left are as told: "u64 result, u32 checksum".
-fn is_told(left: &mut u64, res: u64, buffer: &[u8]) -> bool {
-    let told = next_long(left);
-    let sum = next_number(left);
-    res == told && checksum(buffer) == sum
+fn is_told<R: Read>(from: &mut R, left: &mut u64, res: u64, buffer: &[u8]) -> io::Result<bool> {
+    let told = next_long(from, left)?;
+    let sum = next_number(from, left)?;
+    Ok(res == told && checksum(buffer) == sum)
 }
 
 // Whether the question for a table is answered as told.
-fn is_answered(left: &mut u64, word: &[u8], parents: &[u32], labels: &[u32]) -> bool {
+fn is_answered<R: Read>(
+    from: &mut R,
+    left: &mut u64,
+    word: &[u8],
+    parents: &[u32],
+    labels: &[u32],
+) -> io::Result<bool> {
     let mut buffer = filled_workspace();
-    let result = asked(left, word, parents, labels, &mut buffer);
-    is_told(left, result, &buffer)
+    let result = asked(from, left, word, parents, labels, &mut buffer)?;
+    is_told(from, left, result, &buffer)
 }
 
 // Whether a question comes out as told: "parents; labels;" and the question for them.
-pub fn run_question(left: &mut u64, word: &[u8]) -> bool {
+pub fn run_question<R: Read>(from: &mut R, left: &mut u64, word: &[u8]) -> io::Result<bool> {
     let mut parents = no_rows();
-    let p = next_list(left, &mut parents);
+    let p = next_list(from, left, &mut parents)?;
     let mut labels = no_rows();
-    let l = next_list(left, &mut labels);
-    is_answered(left, word, &parents[..p], &labels[..l])
+    let l = next_list(from, left, &mut labels)?;
+    is_answered(from, left, word, &parents[..p], &labels[..l])
 }

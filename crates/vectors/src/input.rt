@@ -1,9 +1,11 @@
 // What comes next on standard input, and what is then left of its case. "All numbers are little-endian, and every list comes after its length."
 // Where the input has ended, zeros come.
-ghost use Rattle.std.specs.Prelude.{◌≤◌};
-ghost use Rattle.io.specs.Counts.{IsPrefixLen};
+ghost use Rattle.std.specs.Prelude.{◌≤◌, IfOk};
+ghost use Rattle.streams.specs.Counts.{IsPrefixLen};
 
-use libc::STDIN_FILENO;
+use std::io;
+use std::io::Read;
+use streams::read_full;
 
 // What is left of a case: a number of bytes, below 2^32, or what is wrong with the case, which stays.
 pub const ENDS_ELSEWHERE: u64 = 4294967296;
@@ -47,13 +49,18 @@ pub fn within(buffer: &[u8], bytes: usize) -> usize
 }
 
 // So many bytes, put at the start of the buffer; how many they are, or as many as it holds.
-pub fn next_bytes(left: &mut u64, buffer: &mut [u8], bytes: usize) -> usize
-    ensures { IsPrefixLen result buffer.new }
+pub fn next_bytes<R: Read>(
+    from: &mut R,
+    left: &mut u64,
+    buffer: &mut [u8],
+    bytes: usize,
+) -> io::Result<usize>
+    ensures { IfOk result (λ n. IsPrefixLen n buffer.new) }
 {
     let lent = within(buffer, bytes);
-    let came = io::read_full(STDIN_FILENO, &mut buffer[..lent]);
+    let came = read_full(from, &mut buffer[..lent])?;
     *left = rest(*left, bytes, lent, came);
-    within(buffer, bytes)
+    Ok(within(buffer, bytes))
 }
 
 fn pair(low: u8, high: u8) -> u32
@@ -62,37 +69,37 @@ fn pair(low: u8, high: u8) -> u32
     low as u32 + 256 * high as u32
 }
 
-pub fn next_number(left: &mut u64) -> u32 {
+pub fn next_number<R: Read>(from: &mut R, left: &mut u64) -> io::Result<u32> {
     let mut b = [0u8; 4];
-    next_bytes(left, &mut b, 4);
-    pair(b[0], b[1]) + 65536 * pair(b[2], b[3])
+    next_bytes(from, left, &mut b, 4)?;
+    Ok(pair(b[0], b[1]) + 65536 * pair(b[2], b[3]))
 }
 
-pub fn next_long(left: &mut u64) -> u64 {
-    let low = next_number(left);
-    let high = next_number(left);
-    low as u64 + 4294967296 * high as u64
+pub fn next_long<R: Read>(from: &mut R, left: &mut u64) -> io::Result<u64> {
+    let low = next_number(from, left)?;
+    let high = next_number(from, left)?;
+    Ok(low as u64 + 4294967296 * high as u64)
 }
 
 // A length that is promised to be at most so much.
-pub fn next_length(left: &mut u64, most: usize) -> usize
-    ensures { result ≤ most }
+pub fn next_length<R: Read>(from: &mut R, left: &mut u64, most: usize) -> io::Result<usize>
+    ensures { IfOk result (λ n. n ≤ most) }
 {
-    let length = next_number(left) as usize;
+    let length = next_number(from, left)? as usize;
     if length <= most {
-        return length;
+        return Ok(length);
     }
     *left = rest(*left, length, most, 0);
-    most
+    Ok(most)
 }
 
 // A list of numbers, put at the start of list; how many they are.
-pub fn next_list(left: &mut u64, list: &mut [u32]) -> usize
-    ensures { IsPrefixLen result list.new }
+pub fn next_list<R: Read>(from: &mut R, left: &mut u64, list: &mut [u32]) -> io::Result<usize>
+    ensures { IfOk result (λ n. IsPrefixLen n list.new) }
 {
-    let rows = next_length(left, list.len());
+    let rows = next_length(from, left, list.len())?;
     for i in 0..rows {
-        list[i] = next_number(left);
+        list[i] = next_number(from, left)?;
     }
-    rows
+    Ok(rows)
 }
