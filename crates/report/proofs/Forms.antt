@@ -13,7 +13,6 @@ use Rattle.meaning.specs.Promise.{written, length_of, room_after, Writes}
 use Rattle.meaning.specs.Program.{line, plain_name, minimal_name, normal_name, refusal_line, reported, program_text}
 use Rattle.word.specs.Answer.{checked_of, verdict}
 use Rattle.word.specs.declared.whole.Checked.{Checked}
-use Rattle.word.specs.declared.whole.Checked.TheVariants as Checked
 use Rattle.groups.specs.Put.{Written}
 use Rattle.groups.proofs.Put.{written_is, written_then}
 use Rattle.forms.specs.declared.Form.{Form}

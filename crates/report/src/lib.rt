@@ -1,6 +1,7 @@
 // What the program writes for one word, put together in a lent buffer: "three lines, each a name, a blank and lower-case hex: plain image, minimal
 // image, normal form"; "A refusal is one line, `refused N P`, number and place in decimal."
 #![tactic(auto)]
+
 ghost use Rattle.std.specs.Prelude.{◌≡◌, [], ◌∷◌, ◌+◌, ◌≤◌, ◌<◌, length};
 ghost use Rattle.meaning.specs.Program.{hex_digit, hex, decimal, line, refusal_line, program_text};
 ghost use Rattle.groups.specs.Put.{Written as PutBytes};

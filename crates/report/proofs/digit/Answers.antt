@@ -1,7 +1,6 @@
 -- A digit below 10 is a figure, any other a letter.
 use borrow.Author.Tests.{lt-ltb, le-ltb}
 use native.Mathlib.Omega.{arith}
-use borrow.Author.Rules.{rules}
 use Rattle.report.proofs.digit.Goals as goal
 
 pub returns-then-n-lt10 : goal.returns-then-n-lt10

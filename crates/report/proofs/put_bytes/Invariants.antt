@@ -1,9 +1,6 @@
 -- Turn by turn the first i bytes are written.
 use Prim.Native.Nat.{◌-◌}
-use native.Mathlib.Omega.{arith}
-use borrow.Author.Rules.{rules}
-use Rattle.groups.proofs.Put.{written_length}
-use Rattle.report.proofs.Text.{byte_written, bytes_bytewise, Begun, begun_start, begun_fits, begun_next, begun_end}
+use Rattle.report.proofs.Text.{Begun}
 use Rattle.report.proofs.put_bytes.Given as goal
 
 abbrev pub invariant-loop-i : goal.invariant-loop-i

@@ -1,10 +1,7 @@
 -- Turn by turn the first i bytes are written in hex.
-use Prim.Native.Nat.{◌-◌}
 use native.Mathlib.Omega.{arith}
-use borrow.Author.Rules.{rules}
-use Rattle.meaning.specs.Program.{hex}
 use Rattle.groups.proofs.Put.{written_length}
-use Rattle.report.proofs.Text.{hex_bytewise, Begun, begun_start, begun_fits, begun_next, begun_end}
+use Rattle.report.proofs.Text.{hex_bytewise, begun_start, begun_fits, begun_next, begun_end}
 use Rattle.report.proofs.put_hex.Goals as goal
 
 pub loop-i-init : goal.loop-i-init
@@ -12,11 +9,11 @@ loop-i-init c = begun_start hex_bytewise _ _ _
 
 pub put_pair-place-requires : goal.put_pair-place-requires
 put_pair-place-requires c =
-    let l = c.loop-i in omega (arith, begun_fits hex_bytewise _ _ _ c.loop-i-test.true l.invariant c.requires)
+    omega (arith, begun_fits hex_bytewise _ _ _ c.loop-i-test.true c.loop-i.invariant c.requires)
 
 pub loop-i-preserved : goal.loop-i-preserved
 loop-i-preserved c =
-    let l = c.loop-i in begun_next hex_bytewise _ _ _ c.loop-i-test.true l.invariant c.put_pair-place.ensures
+    begun_next hex_bytewise _ _ _ c.loop-i-test.true c.loop-i.invariant c.put_pair-place.ensures
 
 pub shape_of-text : goal.shape_of-text
 shape_of-text c = written_length c.loop-i.invariant.written

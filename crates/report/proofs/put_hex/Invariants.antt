@@ -1,10 +1,7 @@
 -- Turn by turn the first i bytes are written in hex.
 use Prim.Native.Nat.{◌-◌}
-use native.Mathlib.Omega.{arith}
-use borrow.Author.Rules.{rules}
 use Rattle.meaning.specs.Program.{hex}
-use Rattle.groups.proofs.Put.{written_length}
-use Rattle.report.proofs.Text.{hex_bytewise, Begun, begun_start, begun_fits, begun_next, begun_end}
+use Rattle.report.proofs.Text.{Begun}
 use Rattle.report.proofs.put_hex.Given as goal
 
 abbrev pub invariant-loop-i : goal.invariant-loop-i

@@ -1,7 +1,6 @@
 -- One line behind the other.
 use native.Mathlib.Omega.{arith}
 use Rattle.report.proofs.Forms.{three_written, length_three}
-use borrow.Author.Rules.{rules}
 use Rattle.report.proofs.put_lines.Goals as goal
 
 pub put_line-second-requires : goal.put_line-second-requires
@@ -22,4 +21,4 @@ put_line-requires c =
 pub returns : goal.returns
 returns c =
     let (e, r) = c.requires.0 in
-    let plain = c.put_line-second.ensures in let minimal = c.put_line-third.ensures in let normal = c.put_line.ensures in three_written _ e r plain minimal normal
+    three_written _ e r c.put_line-second.ensures c.put_line-third.ensures c.put_line.ensures

@@ -2,7 +2,6 @@
 use native.Mathlib.Omega.{arith}
 use Rattle.theory.proofs.Program.{length_hex, length_line}
 use Rattle.report.proofs.Text.{byte_written, line_written}
-use borrow.Author.Rules.{rules}
 use Rattle.report.proofs.put_named.Goals as goal
 
 pub put_bytes-blank-requires : goal.put_bytes-blank-requires
@@ -23,4 +22,8 @@ put_byte-requires c =
 
 pub returns : goal.returns
 returns c =
-    let name = c.put_bytes-blank.ensures in let blank = c.put_byte-digits.ensures in let digits = c.put_hex-end.ensures in let feed = c.put_byte.ensures in line_written _ _ name (byte_written blank) digits (byte_written feed)
+    let name = c.put_bytes-blank.ensures in
+    let blank = c.put_byte-digits.ensures in
+    let digits = c.put_hex-end.ensures in
+    let feed = c.put_byte.ensures in
+    line_written _ _ name (byte_written (blank.value, blank.out_after)) digits (byte_written (feed.value, feed.out_after))

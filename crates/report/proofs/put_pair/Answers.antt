@@ -5,7 +5,6 @@ use native.Mathlib.Omega.{arith}
 use Rattle.groups.proofs.Put.{written_is}
 use Rattle.theory.proofs.Program.{length_hex}
 use Rattle.report.proofs.Text.{byte_written, pair_written}
-use borrow.Author.Rules.{rules}
 use Rattle.report.proofs.put_pair.Goals as goal
 
 pub put_byte-low-requires : goal.put_byte-low-requires
@@ -16,6 +15,8 @@ put_byte-requires c = omega (arith, length_hex (c.args.b ∷ []))
 
 pub returns : goal.returns
 returns c =
-    let high = c.put_byte-low.ensures in let low = c.put_byte.ensures in pair_written c.args.b
-    (written_is (ap (λ x. x ∷ []) c.digit.ensures) (byte_written high))
-    (written_is (ap (λ x. x ∷ []) c.digit-2.ensures) (byte_written low))
+    let high = c.put_byte-low.ensures in
+    let low = c.put_byte.ensures in
+    pair_written c.args.b
+    (written_is (ap (λ x. x ∷ []) c.digit.ensures) (byte_written (high.value, high.out_after)))
+    (written_is (ap (λ x. x ∷ []) c.digit-2.ensures) (byte_written (low.value, low.out_after)))

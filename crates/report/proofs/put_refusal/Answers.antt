@@ -2,7 +2,6 @@
 use native.Mathlib.Omega.{arith}
 use Rattle.theory.proofs.Program.{length_refusal}
 use Rattle.report.proofs.Text.{byte_written, refusal_written}
-use borrow.Author.Rules.{rules}
 use Rattle.report.proofs.put_refusal.Goals as goal
 
 pub put_bytes-first-requires : goal.put_bytes-first-requires
@@ -27,4 +26,9 @@ put_byte-requires c =
 
 pub returns : goal.returns
 returns c =
-    let name = c.put_bytes-first.ensures in let number = c.put_decimal-blank.ensures in let blank = c.put_byte-second.ensures in let place = c.put_decimal-end.ensures in let feed = c.put_byte.ensures in refusal_written _ _ name number (byte_written blank) place (byte_written feed)
+    let name = c.put_bytes-first.ensures in
+    let number = c.put_decimal-blank.ensures in
+    let blank = c.put_byte-second.ensures in
+    let place = c.put_decimal-end.ensures in
+    let feed = c.put_byte.ensures in
+    refusal_written _ _ name number (byte_written (blank.value, blank.out_after)) place (byte_written (feed.value, feed.out_after))
