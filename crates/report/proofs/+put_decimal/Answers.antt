@@ -1,4 +1,4 @@
--- A number below 10 is one digit; of any other its tenth is written first.
+-- A number below 10 is one digit; of any other its tenth is written first, and a tenth is less.
 use mathlib.Core.Path.{sym, ap}
 use mathlib.Core.List.{[], ◌∷◌}
 use Prim.Native.Nat.{◌+◌, ◌/◌, ◌%◌}
