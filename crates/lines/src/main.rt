@@ -1,6 +1,7 @@
 // Many words in one run: standard input has one word a line, in hex, with blanks between its bytes. Each line is written again, and below it what
 // the program writes for its word, or that it is no word. A line that starts with `#` is a comment: it is written again and nothing more.
 #![tactic(auto)]
+
 ghost use Rattle.std.specs.Prelude.{◌≡◌, ◌+◌, ◌^◌, ◌≤◌, ◌<◌, length};
 ghost use Rattle.streams.specs.Counts.{IsPrefixLen};
 
