@@ -8,7 +8,6 @@ SEED ?= 20011
 
 # The main job: proves and builds the program, and brings one query to its smallest form.
 example:
-	rt check reduce
 	printf '\002\012\004\005\002\005\004' | tools/run reduce
 
 # The gate: proofs from nothing, must-fail edits, programs, the example client, and the comparison with the second implementation.
