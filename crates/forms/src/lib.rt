@@ -20,7 +20,7 @@ pub enum Form {
 }
 
 // A writer's answer: the length written, or the refusal's number and place.
-#[derive(Drop)]
+#[derive(Clone, Copy)]
 pub enum Written {
     Done { length: usize },
     Refused { number: u32, place: usize },

@@ -10,7 +10,7 @@ use crate::merging::{Met, meet_labels, merge_rows, or_else, renumber};
 use rows::{NO_ROW, wide};
 
 // A table with three of its nodes; no rows: gluing failed.
-#[derive(Drop)]
+#[derive(Clone, Copy)]
 pub struct Joined {
     pub rows: usize,
     pub s: usize,

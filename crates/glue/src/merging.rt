@@ -9,7 +9,7 @@ ghost use Rattle.glue.specs.Rows.{pool_rows, met_of, Relinked, Swept};
 use rows::NO_ROW;
 
 // What two labels glued together are.
-#[derive(Drop)]
+#[derive(Clone, Copy)]
 pub enum Met {
     Label(u32),
     Clash,

@@ -14,7 +14,7 @@ use crate::levels::{Joined, glue_rows};
 use rows::{NO_ROW, wide};
 
 // A tree query that was built: its number of rows and its two marks; no rows: empty.
-#[derive(Drop)]
+#[derive(Clone, Copy)]
 pub struct Built {
     pub rows: usize,
     pub s: usize,

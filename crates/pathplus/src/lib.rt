@@ -14,7 +14,7 @@ pub use question::selects;
 pub use writers::{minimal_image, normal_form, plain_image, written};
 
 // The pair question's answer: yes or no, or the refusal's number and place.
-#[derive(Drop)]
+#[derive(Clone, Copy)]
 pub enum Told {
     Yes,
     No,

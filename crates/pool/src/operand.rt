@@ -16,7 +16,7 @@ use word::sign::{
 };
 
 // The latest operand once a sign is applied: its place among the pending operands, its rows and its marks.
-#[derive(Drop)]
+#[derive(Clone, Copy)]
 pub struct Latest {
     pub at: usize,
     pub rows: usize,

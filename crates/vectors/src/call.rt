@@ -18,7 +18,7 @@ const WORKSPACE: usize = 32784;
 const ROWS: usize = 1026;
 
 // What is written of a word.
-#[derive(Drop)]
+#[derive(Clone, Copy)]
 pub enum Form {
     Plain,
     Minimal,

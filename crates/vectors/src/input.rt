@@ -1,6 +1,7 @@
 // What comes next on standard input, and what is then left of its case. "All numbers are little-endian, and every list comes after its length."
-// Where the input has ended, zeros come.
-ghost use Rattle.std.specs.Prelude.{◌≤◌, IfOk};
+// Where the input has ended, zeros come. Where a read fails, its error is the answer: what was read before it stays read, and what is left of the
+// case counts what came as a whole.
+ghost use Rattle.std.specs.Prelude.{◌≡◌, ◌≤◌, IfOk, OnErr};
 ghost use Rattle.streams.specs.Counts.{IsPrefixLen};
 
 use std::io;
@@ -55,7 +56,8 @@ pub fn next_bytes<R: Read>(
     buffer: &mut [u8],
     bytes: usize,
 ) -> io::Result<usize>
-    ensures { IfOk result (λ n. IsPrefixLen n buffer.new) }
+    ensures ok { IfOk result (λ n. IsPrefixLen n buffer.new) }
+    ensures err { OnErr result (left.new ≡ left.old) }
 {
     let lent = within(buffer, bytes);
     let came = read_full(from, &mut buffer[..lent])?;
@@ -69,7 +71,9 @@ fn pair(low: u8, high: u8) -> u32
     low as u32 + 256 * high as u32
 }
 
-pub fn next_number<R: Read>(from: &mut R, left: &mut u64) -> io::Result<u32> {
+pub fn next_number<R: Read>(from: &mut R, left: &mut u64) -> io::Result<u32>
+    ensures { OnErr result (left.new ≡ left.old) }
+{
     let mut b = [0u8; 4];
     next_bytes(from, left, &mut b, 4)?;
     Ok(pair(b[0], b[1]) + 65536 * pair(b[2], b[3]))
@@ -83,7 +87,8 @@ pub fn next_long<R: Read>(from: &mut R, left: &mut u64) -> io::Result<u64> {
 
 // A length that is promised to be at most so much.
 pub fn next_length<R: Read>(from: &mut R, left: &mut u64, most: usize) -> io::Result<usize>
-    ensures { IfOk result (λ n. n ≤ most) }
+    ensures ok { IfOk result (λ n. n ≤ most) }
+    ensures err { OnErr result (left.new ≡ left.old) }
 {
     let length = next_number(from, left)? as usize;
     if length <= most {

@@ -28,7 +28,7 @@ pub const FIRST_LABEL: u32 = 9;
 pub const LARGEST_SIGN: u32 = FIRST_LABEL + LARGEST_LABEL;
 
 // What a sign does to the pending operands: an operand, an operand that is a step, an operator on one or on two.
-#[derive(Drop)]
+#[derive(Clone, Copy)]
 pub enum Kind {
     Operand,
     Step,

@@ -28,7 +28,7 @@ enum Turn {
 }
 
 // The word is accepted, or refused with a number and a place.
-#[derive(Drop)]
+#[derive(Clone, Copy)]
 pub enum Checked {
     Accepted,
     Refused { number: u32, place: usize },
