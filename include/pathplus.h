@@ -63,9 +63,9 @@
  * call waits, prints, or sets errno.
  *
  * Stack. It is bounded by the limits below. The deepest that was measured, by
- * `bench/run stack` over words made to be deep, is the normal form of one branch
- * of 255 steps (the word 02, 254 times 02 04, 05): 35,744 bytes on x86-64, 35,760
- * on aarch64. The other calls took less than 29 KB. This is measured, not proved.
+ * `bench/run stack` over words made to be deep, is the pair question of two
+ * branches of 128 and 127 nodes that are alike but for their ends: 28,872 bytes
+ * on x86-64. The other calls took less than 28 KB. This is measured, not proved.
  */
 #ifndef PATHPLUS_H
 #define PATHPLUS_H

@@ -1,7 +1,7 @@
 // What comes next on standard input, and what is then left of its case. "All numbers are little-endian, and every list comes after its length."
 // Where the input has ended, zeros come. Where a read fails, its error is the answer: what was read before it stays read, and what is left of the
 // case counts what came as a whole.
-ghost use Rattle.std.specs.Prelude.{◌≡◌, ◌≤◌, IfOk, OnErr};
+ghost use Rattle.std.specs.Prelude.{◌≡◌, ◌≤◌, length, IfOk, OnErr};
 ghost use Rattle.streams.specs.Counts.{IsPrefixLen};
 
 use std::io;
@@ -57,7 +57,7 @@ pub fn next_bytes<R: Read>(
     bytes: usize,
 ) -> io::Result<usize>
     ensures ok { IfOk result (λ n. IsPrefixLen n buffer.new) }
-    ensures err { OnErr result (left.new ≡ left.old) }
+    ensures err { OnErr result ((left.new ≡ left.old) × (length buffer.new ≡ length buffer.old)) }
 {
     let lent = within(buffer, bytes);
     let came = read_full(from, &mut buffer[..lent])?;
@@ -100,7 +100,8 @@ pub fn next_length<R: Read>(from: &mut R, left: &mut u64, most: usize) -> io::Re
 
 // A list of numbers, put at the start of list; how many they are.
 pub fn next_list<R: Read>(from: &mut R, left: &mut u64, list: &mut [u32]) -> io::Result<usize>
-    ensures { IfOk result (λ n. IsPrefixLen n list.new) }
+    ensures ok { IfOk result (λ n. IsPrefixLen n list.new) }
+    ensures err { OnErr result (length list.new ≡ length list.old) }
 {
     let rows = next_length(from, left, list.len())?;
     for i in 0..rows {
