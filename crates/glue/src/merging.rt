@@ -119,8 +119,8 @@ pub fn merge_rows(
     u: u16,
     l: u32,
 )
-    requires from_le_y { (from ≤ y) × (y < n) × (x < n) × (x ≡ y → ⊥) × (n ≤ pool_rows) × (n ≤ length parent.old) × (n ≤ length label.old) }
-    requires by_index { (i p : ℕ) → i < from → parent_of (get_or parent.old i 0) ≡ some p → p < from }
+    requires sizes { (from ≤ y) × (y < n) × (x < n) × (x ≡ y → ⊥) × (n ≤ pool_rows) × (n ≤ length parent.old) × (n ≤ length label.old) }
+    requires low_links { (i p : ℕ) → i < from → parent_of (get_or parent.old i 0) ≡ some p → p < from }
     ensures { table (n - 1) parent.new label.new
         ≡ merged (table n parent.old label.old) x y (parent_of u) (lab_of l) }
 {

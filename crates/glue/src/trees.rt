@@ -34,8 +34,8 @@ fn shifted(na: u16, p: u16) -> u16
 
 // Two tables side by side become one: the links of the nb rows behind the first na grow by na.
 fn shift_rows(parent: &mut [u16], na: usize, nb: usize)
-    requires nb_bound { (na + nb ≤ pool_rows) × (na + nb ≤ length parent.old) }
-    requires by_index { (i p : ℕ) → i < nb → parent_of (get_or (drop na parent.old) i 0) ≡ some p → p < pool_rows }
+    requires sizes { (na + nb ≤ pool_rows) × (na + nb ≤ length parent.old) }
+    requires low_links { (i p : ℕ) → i < nb → parent_of (get_or (drop na parent.old) i 0) ≡ some p → p < pool_rows }
     ensures { (L : List ℕ) → table (na + nb) parent.new L
         ≡ join (table na parent.old L) (table nb (drop na parent.old) (drop na L)) }
 {
@@ -62,7 +62,7 @@ fn meeting(p: Built, both: bool) -> usize
 // The query p in the first rows and the query q in the rows behind them: their first gluing, and where p's s and d and q's d are then.
 fn glue_across(parent: &mut [u16], label: &mut [u32], p: Built, q: Built, both: bool) -> Joined
     requires rows_fit { RowsFit (p.rows + q.rows) parent.old label.old }
-    requires tree_query { TreeQuery (query_from 0 p parent.old label.old) × TreeQuery (query_from p.rows q parent.old label.old) }
+    requires tree_queries { TreeQuery (query_from 0 p parent.old label.old) × TreeQuery (query_from p.rows q parent.old label.old) }
     ensures { let A = table p.rows parent.old label.old in
         let B = table q.rows (drop p.rows parent.old) (drop p.rows label.old) in
         joined_of result parent.new label.new
@@ -132,7 +132,7 @@ fn glue_within(parent: &mut [u16], label: &mut [u32], t: Joined) -> Built
 // Composition, or intersection, which "glues s to s, then d to d in that result". "Empty in any operand gives empty."
 pub fn glue_two(parent: &mut [u16], label: &mut [u32], p: Built, q: Built, both: bool) -> Built
     requires rows_fit { RowsFit (p.rows + q.rows) parent.old label.old }
-    requires tree_o { TreeO (built_of p parent.old label.old) × TreeO (built_from p.rows q parent.old label.old) }
+    requires trees { TreeO (built_of p parent.old label.old) × TreeO (built_from p.rows q parent.old label.old) }
     ensures { built_of result parent.new label.new ≡ two (chosen both)
         (built_of p parent.old label.old) (built_from p.rows q parent.old label.old) }
 {

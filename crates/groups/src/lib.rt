@@ -21,8 +21,8 @@ pub fn number_length(x: u32) -> usize
 
 pub fn put_byte(out: &mut [u8], at: usize, b: u8) -> usize
     requires { at < length out.old }
-    ensures value { result ≡ at + 1 }
-    ensures out_after { out.new ≡ put out.old at (b ∷ []) }
+    ensures place { result ≡ at + 1 }
+    ensures bytes { out.new ≡ put out.old at (b ∷ []) }
 {
     out[at] = b;
     at + 1
@@ -31,8 +31,8 @@ pub fn put_byte(out: &mut [u8], at: usize, b: u8) -> usize
 // "Low group first; a byte's top bit is set when another group follows."
 pub fn put_number(out: &mut [u8], at: usize, x: u32) -> usize
     requires { at + length (num x) ≤ length out.old }
-    ensures value { result ≡ at + length (num x) }
-    ensures out_after { out.new ≡ put out.old at (num x) }
+    ensures place { result ≡ at + length (num x) }
+    ensures bytes { out.new ≡ put out.old at (num x) }
 {
     let mut rest = x;
     let mut place = at;

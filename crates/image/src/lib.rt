@@ -22,8 +22,8 @@ fn head_length(code: u32, mark: u8, kids: u16) -> usize
 // The head of a record, written from place `at` on.
 fn put_head(room: &mut [u8], at: usize, code: u32, mark: u8, kids: u16) -> usize
     requires { at + length (head code mark kids) ≤ length room.old }
-    ensures value { result ≡ at + length (head code mark kids) }
-    ensures room_after { room.new ≡ put room.old at (head code mark kids) }
+    ensures place { result ≡ at + length (head code mark kids) }
+    ensures bytes { room.new ≡ put room.old at (head code mark kids) }
 {
     let second = groups::put_number(room, at, code);
     let third = groups::put_number(room, second, mark as u32);

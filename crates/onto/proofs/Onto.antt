@@ -10,7 +10,6 @@ use lib.ListN.{get_or}
 use lib.Dec.{eqb}
 use lib.Bits.{bit_and, bit_or, and_mod}
 use borrow.Author.Tests.{eqb-true, eqb-false}
-use Rattle.meaning.specs.Limits.{most_nodes}
 use Rattle.meaning.specs.Basics.{is, dec_both}
 use Rattle.meaning.specs.Tree.{Forest, bare, tree, size}
 use Rattle.meaning.specs.Folding.{LabLe, dec_mark}
@@ -121,13 +120,6 @@ height_child span u e (tree i k r) h a (inl q) =
 height_child span u e (tree i k r) h a (inr t) = let z = height_child span (suc i + size k) e r h.3 a t in omega arith
 
 module _ {t : Nodes} {u : ℕ} (S : Stands t u) where
-  pub stands_in : u < most_nodes
-  stands_in = omega (arith, S.some, S.few)
-
-  -- what lies below row u is not more than a row number can be
-  pub stands_few : {s : ℕ} → s ≡ get_or t.span u 0 → u + s ≤ most_nodes
-  stands_few e = omega (arith, S.few)
-
   -- a row below it stands as well
   pub stands_opens : {a e : ℕ} → Opens t.span a e → e ≡ u + get_or t.span u 0 → Stands t a
   stands_opens o q = record { some = o.some; few = omega (arith, o.inside, S.few); held = o.held }

@@ -73,8 +73,8 @@ pub fn build(
     s: &mut [u16],
     d: &mut [u16],
 ) -> Built
-    requires word_value { (e : Expr) × (read_word word.now ≡ answered e) }
-    requires pool_rows_in_bounds { (pool_rows ≤ length parent.old) × (pool_rows ≤ length label.old)
+    requires accepted { (e : Expr) × (read_word word.now ≡ answered e) }
+    requires sizes { (pool_rows ≤ length parent.old) × (pool_rows ≤ length label.old)
         × (most_pending < length first.old) × (most_pending ≤ length s.old) × (most_pending ≤ length d.old) }
     ensures { and_then (read_word word.now) (λ e. answered (plain e))
         ≡ answered (built_of result parent.new label.new) }

@@ -11,7 +11,6 @@ use borrow.Author.Tests.{ltb-true, ltb-false, le-ltb, eq-eqb, ne_eqb}
 use Rattle.meaning.specs.Expression.{Expr}
 use Rattle.meaning.specs.Number.{read_number}
 use Rattle.meaning.specs.Word.{Outcome, refused, answered, Pending, takes, only_one, at_end, run, read_word}
-use Rattle.theory.proofs.Look.{never}
 use Rattle.word.specs.Answer.{got_of, counts_of, counting, turn_of, takes_read, goes_on, at_last, all_signs, verdict}
 use Rattle.word.specs.Cursor.{place_past}
 use Rattle.word.specs.declared.number.Read.{Read}
@@ -35,13 +34,6 @@ verdict_only_one : (es : List Expr) (end : ℕ) → verdict (only_one es end) �
 verdict_only_one [] end = refl
 verdict_only_one (e ∷ []) end = refl
 verdict_only_one (e ∷ (d ∷ es)) end = rw (ne_eqb (suc (suc (length es))) 1 (λ z. omega arith))
-
--- counting on and being stopped are never the same
-pub going_stopped : {counts : Counts} {number place : ℕ} → Next counts ≡ Stop number place → ⊥
-going_stopped e = never cc
-
-pub going_same : {counts more : Counts} → Next counts ≡ Next more → counts ≡ more
-going_same e = cc
 
 -- the signs before `at` left pending operands that `counts` counts, and the word is what the signs from `at` on make of them
 pub record Checking (w : List ℕ) (counts : Counts) (at : ℕ) : Type 0 where

@@ -4,7 +4,7 @@ use mathlib.Core.Logic.{◌⊎◌, ⊎_elim}
 use mathlib.Core.Bool.{Bool, true, false}
 use mathlib.Core.List.{List}
 use Prim.Native.Nat.{ℕ, ◌+◌, ◌-◌, ◌*◌, ◌^◌, ◌<◌, ◌≤◌}
-use native.Mathlib.Nat.{sub_self, add-mul, mul_assoc, mul_comm, mul-le-mul, mul-le-mul_right}
+use native.Mathlib.Nat.{sub_self, add-mul, mul_assoc, mul_comm, mul-le-mul_right}
 use native.Mathlib.Numerals.{add-one}
 use native.Mathlib.Omega.{arith}
 use lib.ListN.{length, get_or, drop, drop_of_length-le}
@@ -56,10 +56,6 @@ pub record Reading (w : List ℕ) (at value weight next : ℕ) : Type 0 where
   pub small : value < weight
   pub fits : weight < 2 ^ 32
   pub whole : groups true (drop at w) ≡ after value weight (next - at) (groups (eqb weight 1) (drop next w))
-
--- the next group's share is far below what 64 bits hold
-pub product : {w : List ℕ} {at value weight next : ℕ} → Reading w at value weight next → {b : ℕ} → b < 256 → b * weight ≤ 256 * 2 ^ 32
-product r l = mul-le-mul {n₂ = 256} {m₂ = 2 ^ 32} (omega arith) (omega arith)
 
 after_start : (g : Got) → g ≡ after 0 1 0 g
 after_start (got x n) = let e : 0 + x * 1 ≡ x = omega arith in let q : 0 + n ≡ n = omega arith in cc

@@ -19,9 +19,6 @@ one_of_two j n h k = go (ℕ_discrete n j)
     go (yes e) = inl e
     go (no e) = inr (omega arith)
 
-pub none_of_two : {j k n : ℕ} → ((n ≡ j) ⊎ (n ≡ k) → ⊥) → (n ≡ j → ⊥) × (n ≡ k → ⊥)
-none_of_two f = (λ e. f (inl e), λ e. f (inr e))
-
 pub kind_of_two : {K : Kind} (j k n : ℕ) → K ≡ kind_of j → K ≡ kind_of k → (n ≡ j) ⊎ (n ≡ k) → K ≡ kind_of n
 kind_of_two j k n p q = ⊎_elim (λ e. p ∙ ap kind_of (sym e)) (λ e. q ∙ ap kind_of (sym e))
 

@@ -1,4 +1,3 @@
--- The first i bytes are clear, the later ones as they were.
 use mathlib.Core.Path.{◌≡◌}
 use native.Mathlib.Omega.{arith}
 use Rattle.bits.proofs.Bits.{clear_none, clear_more}

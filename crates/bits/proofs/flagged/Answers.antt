@@ -1,4 +1,3 @@
--- A byte without bits keeps none; else its first k bits are sifted.
 use Prim.Native.Nat.{◌+◌}
 use native.Mathlib.Omega.{arith}
 use lib.ListN.{get_or}

@@ -1,4 +1,3 @@
--- The first i bytes of row u keep the bits whose flags are 1.
 use mathlib.Core.Path.{◌≡◌}
 use native.Mathlib.Omega.{arith}
 use Rattle.bits.proofs.Bits.{met_none, met_more}

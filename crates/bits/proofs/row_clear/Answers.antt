@@ -1,4 +1,3 @@
--- `clear` tells whether the first i bytes are 0.
 use mathlib.Core.Path.{◌≡◌, refl}
 use native.Mathlib.Omega.{arith}
 use Rattle.bits.specs.Bits.{all_to, row_clear}

@@ -1,4 +1,3 @@
--- The branch writer and the chain writer call each other; the number of rows below falls. While the children are written, those from row c on are left.
 use Rattle.std.proofs.Common.{refl, arith}
 use Rattle.branches.proofs.Joining.{left_is, left_done, left_fits, child_fits, child_step}
 use Rattle.branches.proofs.Chains.{row_few, row_next, off_opens, off_end, onward_one, more_start}
@@ -14,7 +13,7 @@ branch-put_byte-requires t c = five_fits c.requires.0 c.args.room.now _ c.requir
 
 pub branch-returns : goal.branch-returns
 branch-returns t c =
-    branch_done c.requires.0 c.chain-end.ensures (record { place = c.put_byte.ensures.value; bytes = c.put_byte.ensures.out_after })
+    branch_done c.requires.0 c.chain-end.ensures (record { place = c.put_byte.ensures.place; bytes = c.put_byte.ensures.bytes })
 
 pub chain-put_sign-below-requires : goal.chain-put_sign-below-requires
 chain-put_sign-below-requires t c = let (R, le, f) = c.requires in child_fits (chain_start _ _ _ c.args.room.now le f)

@@ -1,4 +1,3 @@
--- The label is written; then, child by child, those from row c on are left.
 use native.Mathlib.Omega.{arith}
 use Rattle.branches.proofs.Joining.{left_start, left_done, left_fits, left_step}
 use Rattle.branches.proofs.Chains.{row_few, off_start, off_opens, off_fits, off_next, off_end, own_start}

@@ -1,5 +1,3 @@
--- The first foldable pair: of the listed children from `from` up to i none folds onto another one; the inner loop has shown that the i-th, row u, folds
--- onto none that is listed before place j. Both loops are left at the pair.
 use native.Mathlib.Omega.{arith}
 use borrow.Author.Count.{below_more}
 use Rattle.onto.proofs.Onto.{yes_told, no_told}

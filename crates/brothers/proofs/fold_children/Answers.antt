@@ -1,5 +1,3 @@
--- The children of p are folded to the end. Those that are left are listed, and none of them before the i-th folds onto another one. Whatever has gone
--- folded onto a child that stayed.
 use Prim.Native.Nat.{◌≤◌}
 use mathlib.Core.Path.{refl, ◌∙◌}
 use native.Mathlib.Omega.{arith}

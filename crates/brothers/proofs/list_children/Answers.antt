@@ -1,4 +1,3 @@
--- The children before row c that are still there are listed, and they are fewer than the rows behind p that were passed.
 use Prim.Native.Nat.{◌<◌}
 use mathlib.Core.Path.{refl, sym, ◌∙◌}
 use native.Mathlib.Omega.{arith}

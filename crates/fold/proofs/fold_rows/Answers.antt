@@ -1,4 +1,3 @@
--- From the last row to the first: below each row that was passed, what is left is folded to the end.
 use Prim.Native.Nat.{◌+◌, ◌-◌}
 use mathlib.Core.Path.{◌≡◌, refl, ◌∙◌}
 use native.Mathlib.Omega.{arith}

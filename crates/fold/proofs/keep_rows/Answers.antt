@@ -1,4 +1,3 @@
--- The walk meets the nodes of the tree that is left, in image order, and each goes to the next place.
 use mathlib.Core.Path.{refl, sym, ◌∙◌}
 use native.Mathlib.Omega.{arith}
 use lib.ListN.{length-set}

@@ -1,4 +1,3 @@
--- As long as groups are left, they and the bytes counted make up the number's bytes.
 use mathlib.Core.Path.{ap}
 use native.Mathlib.Omega.{arith}
 use lib.ListN.{length}

@@ -4,4 +4,4 @@ use Rattle.groups.proofs.Put.{put_one}
 use Rattle.groups.proofs.put_byte.Goals as goal
 
 pub returns : goal.returns
-returns c = record { value = refl; out_after = sym (put_one _ _ _) }
+returns c = record { place = refl; bytes = sym (put_one _ _ _) }

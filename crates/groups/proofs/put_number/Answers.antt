@@ -1,4 +1,3 @@
--- What is left of the number, written into the room as it is now, gives the room that is owed.
 use mathlib.Core.Path.{refl, sym, ap, ◌∙◌}
 use mathlib.Core.List.{[], ◌∷◌}
 use Prim.Native.Nat.{◌+◌, ◌/◌, ◌%◌}
@@ -31,7 +30,7 @@ loop-rest-preserved c =
     let m = num_more c.loop-rest.rest c.loop-rest-test.true in
     let p = c.put_byte-place in (
       put_then c.loop-rest.out p.new.out c.loop-rest.place p.result ((128 + c.loop-rest.rest % 128) ∷ []) (num (c.loop-rest.rest / 128))
-          p.ensures.out_after p.ensures.value ∙ ap (put c.loop-rest.out c.loop-rest.place) (sym m) ∙ c.loop-rest.invariant.0,
+          p.ensures.bytes p.ensures.place ∙ ap (put c.loop-rest.out c.loop-rest.place) (sym m) ∙ c.loop-rest.invariant.0,
       omega (arith, ap length m),
       omega arith,
     )
@@ -47,6 +46,6 @@ returns c =
     let m = num_one c.loop-rest.rest c.loop-rest-test.false in
     let p = c.put_byte in
     record {
-      value = omega (arith, ap length m);
-      out_after = p.ensures.out_after ∙ ap (put c.loop-rest.out c.loop-rest.place) (sym m) ∙ c.loop-rest.invariant.0;
+      place = omega (arith, ap length m);
+      bytes = p.ensures.bytes ∙ ap (put c.loop-rest.out c.loop-rest.place) (sym m) ∙ c.loop-rest.invariant.0;
     }

@@ -1,4 +1,3 @@
--- The bytes counted and those of the rows that are left make up the image's.
 use native.Mathlib.Omega.{arith}
 use Rattle.theory.proofs.Numbers.{num_short}
 use Rattle.image.proofs.Listing.{length_next, length_none, length_listing}

@@ -23,6 +23,6 @@ returns c =
     let r = c.put_number in
     let first = put_head a.code a.mark a.kids a.at p.result q.result a.room.now p.new.out q.new.out in
     record {
-      value = omega (arith, length_head a.code a.mark a.kids);
-      room_after = r.ensures.out_after ∙ first p.ensures.out_after p.ensures.value q.ensures.out_after q.ensures.value;
+      place = omega (arith, length_head a.code a.mark a.kids);
+      bytes = r.ensures.bytes ∙ first p.ensures.bytes p.ensures.place q.ensures.bytes q.ensures.place;
     }

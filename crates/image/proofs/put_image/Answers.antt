@@ -1,4 +1,3 @@
--- The rows that are left, written into the room as it is now, give the room that is owed.
 use mathlib.Core.Path.{refl, sym, ◌∙◌}
 use native.Mathlib.Omega.{arith}
 use Rattle.image.proofs.Listing.{length_next, put_next, length_none, put_none, length_listing, put_listing}
@@ -25,7 +24,7 @@ loop-u-preserved c =
     let l = c.loop-u in
     let t = c.loop-u-test.true in
     let p = c.put_head-place in
-    let next = put_next a.code.now a.mark.now a.kids.now a.n l.u l.place p.result l.room p.new.room t p.ensures.room_after p.ensures.value in
+    let next = put_next a.code.now a.mark.now a.kids.now a.n l.u l.place p.result l.room p.new.room t p.ensures.bytes p.ensures.place in
     (omega arith, omega (arith, length_next a.code.now a.mark.now a.kids.now a.n l.u t), next ∙ l.invariant.2, omega arith)
 
 pub returns : goal.returns
@@ -34,7 +33,7 @@ returns c =
     let p = c.put_number-place in
     let l = c.loop-u in
     let e = c.loop-u-test.false in
-    let all = put_listing a.code.now a.mark.now a.kids.now a.n a.at p.result a.room.now p.new.out p.ensures.out_after p.ensures.value in
+    let all = put_listing a.code.now a.mark.now a.kids.now a.n a.at p.result a.room.now p.new.out p.ensures.bytes p.ensures.place in
     record {
       place = omega (arith, length_none a.code.now a.mark.now a.kids.now a.n l.u e, length_listing a.code.now a.mark.now a.kids.now a.n);
       bytes = sym (put_none a.code.now a.mark.now a.kids.now a.n l.u l.place l.room e) ∙ l.invariant.2 ∙ all;

@@ -1,4 +1,3 @@
--- The way from u on x can be laid exactly if the way from c on y can.
 use mathlib.Core.Path.{◌≡◌}
 use native.Mathlib.Omega.{arith}
 use Rattle.document.proofs.Nodes.{iff_same}

@@ -1,4 +1,3 @@
--- The pair is selected exactly if the ways from u on x and from v on y can be laid at once.
 use Prim.Native.Nat.{◌<◌}
 use native.Mathlib.Omega.{arith}
 use Rattle.pair.proofs.Climbing.{up_less}

@@ -4,7 +4,7 @@ use Rattle.query.proofs.Laws.{built_table, built_rows}
 use Rattle.query.proofs.word_rows.Goals as goal
 
 pub build-built-requires : goal.build-built-requires
-build-built-requires c = record { word_value = c.requires.0; pool_rows_in_bounds = (omega arith, omega arith, omega arith, omega arith, omega arith) }
+build-built-requires c = record { accepted = c.requires.0; sizes = (omega arith, omega arith, omega arith, omega arith, omega arith) }
 
 pub query_rows-requires : goal.query_rows-requires
 query_rows-requires c =

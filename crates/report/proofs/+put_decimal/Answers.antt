@@ -15,7 +15,7 @@ put_byte-requires t c = omega (arith, ap length (decimal_one _ c.if-x-lt10.true)
 pub returns-then-x-lt10 : goal.returns-then-x-lt10
 returns-then-x-lt10 t c =
     let digit = c.put_byte.ensures in
-    written_is (sym (decimal_one _ c.if-x-lt10.true)) (byte_written (digit.value, digit.out_after))
+    written_is (sym (decimal_one _ c.if-x-lt10.true)) (byte_written (digit.place, digit.bytes))
 
 pub put_decimal-last-requires : goal.put_decimal-last-requires
 put_decimal-last-requires t c =
@@ -30,4 +30,4 @@ put_byte-requires-2 t c =
 pub returns : goal.returns
 returns t c =
     let digit = c.put_byte-2.ensures in
-    written_is (sym (decimal_more _ c.if-x-lt10.false)) (written_then c.put_decimal-last.ensures (byte_written (digit.value, digit.out_after)))
+    written_is (sym (decimal_more _ c.if-x-lt10.false)) (written_then c.put_decimal-last.ensures (byte_written (digit.place, digit.bytes)))

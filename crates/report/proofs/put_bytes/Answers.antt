@@ -1,4 +1,3 @@
--- Turn by turn the first i bytes are written.
 use native.Mathlib.Omega.{arith}
 use Rattle.groups.proofs.Put.{written_length}
 use Rattle.report.proofs.Text.{byte_written, bytes_bytewise, begun_start, begun_fits, begun_next, begun_end}
@@ -14,7 +13,7 @@ put_byte-place-requires c =
 pub loop-i-preserved : goal.loop-i-preserved
 loop-i-preserved c =
     let byte = c.put_byte-place.ensures in
-    begun_next bytes_bytewise _ _ _ c.loop-i-test.true c.loop-i.invariant (byte_written (byte.value, byte.out_after))
+    begun_next bytes_bytewise _ _ _ c.loop-i-test.true c.loop-i.invariant (byte_written (byte.place, byte.bytes))
 
 pub shape_of-text : goal.shape_of-text
 shape_of-text c = written_length c.loop-i.invariant.written

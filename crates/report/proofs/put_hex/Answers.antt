@@ -1,4 +1,3 @@
--- Turn by turn the first i bytes are written in hex.
 use native.Mathlib.Omega.{arith}
 use Rattle.groups.proofs.Put.{written_length}
 use Rattle.report.proofs.Text.{hex_bytewise, begun_start, begun_fits, begun_next, begun_end}

@@ -26,4 +26,4 @@ returns c =
     let blank = c.put_byte-digits.ensures in
     let digits = c.put_hex-end.ensures in
     let feed = c.put_byte.ensures in
-    line_written _ _ name (byte_written (blank.value, blank.out_after)) digits (byte_written (feed.value, feed.out_after))
+    line_written _ _ name (byte_written (blank.place, blank.bytes)) digits (byte_written (feed.place, feed.bytes))

@@ -18,5 +18,5 @@ returns c =
     let high = c.put_byte-low.ensures in
     let low = c.put_byte.ensures in
     pair_written c.args.b
-    (written_is (ap (λ x. x ∷ []) c.digit.ensures) (byte_written (high.value, high.out_after)))
-    (written_is (ap (λ x. x ∷ []) c.digit-2.ensures) (byte_written (low.value, low.out_after)))
+    (written_is (ap (λ x. x ∷ []) c.digit.ensures) (byte_written (high.place, high.bytes)))
+    (written_is (ap (λ x. x ∷ []) c.digit-2.ensures) (byte_written (low.place, low.bytes)))

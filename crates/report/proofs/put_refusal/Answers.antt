@@ -31,4 +31,4 @@ returns c =
     let blank = c.put_byte-second.ensures in
     let place = c.put_decimal-end.ensures in
     let feed = c.put_byte.ensures in
-    refusal_written _ _ name number (byte_written (blank.value, blank.out_after)) place (byte_written (feed.value, feed.out_after))
+    refusal_written _ _ name number (byte_written (blank.place, blank.bytes)) place (byte_written (feed.place, feed.bytes))

@@ -1,4 +1,3 @@
--- No row before u bears the mark, so row u is there.
 use mathlib.Core.Path.{sym, ◌∙◌}
 use Prim.Native.Nat.{◌+◌}
 use native.Mathlib.Omega.{arith}

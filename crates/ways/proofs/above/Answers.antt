@@ -17,9 +17,9 @@ put_byte-projected-requires c = six_fits _ _ _ _ _ c.if-t-eq0.false c.args.room.
 pub join-requires : goal.join-requires
 join-requires c =
     above_joint c.args.code.now c.args.span.now c.args.from c.args.at _ c.if-t-eq0.false _ c.requires.1 c.way-end.ensures
-    (record { place = c.put_byte-projected.ensures.value; bytes = c.put_byte-projected.ensures.out_after })
+    (record { place = c.put_byte-projected.ensures.place; bytes = c.put_byte-projected.ensures.bytes })
 
 pub returns : goal.returns
 returns c =
     above_done _ _ _ _ _ c.if-t-eq0.false _ c.way-end.ensures
-    (record { place = c.put_byte-projected.ensures.value; bytes = c.put_byte-projected.ensures.out_after }) c.join.ensures
+    (record { place = c.put_byte-projected.ensures.place; bytes = c.put_byte-projected.ensures.bytes }) c.join.ensures

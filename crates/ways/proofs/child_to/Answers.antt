@@ -1,4 +1,3 @@
--- The children from row c on are left, and x lies at or behind row c.
 use native.Mathlib.Omega.{arith}
 use Rattle.ways.proofs.Steps.{children_start, children_here}
 use Rattle.ways.proofs.child_to.Goals as goal

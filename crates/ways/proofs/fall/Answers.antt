@@ -1,4 +1,3 @@
--- What is left of the way belongs behind what the room has.
 use native.Mathlib.Omega.{arith}
 use Rattle.branches.proofs.Joining.{written_reached, left_start, left_is, left_end, child_fits}
 use Rattle.ways.proofs.Writing.{row_part, child_row, child_behind, down_start, down_own, down_done, downs_nil}

@@ -1,4 +1,3 @@
--- Row t is above or at s, and no row that holds s and d is below it.
 use mathlib.Core.Path.{sym, ◌∙◌}
 use native.Mathlib.Omega.{arith}
 use Rattle.ways.proofs.Steps.{lowest_start, lowest_done, lowest_less, lowest_next}

@@ -1,4 +1,3 @@
--- The room has the factors of the way from s up to row x.
 use native.Mathlib.Omega.{arith}
 use Rattle.branches.proofs.Joining.{written_reached}
 use Rattle.ways.proofs.Writing.{climb_row, rise_start, rise_less, rise_covers, rise_from, rise_own, rise_parent, rise_next}

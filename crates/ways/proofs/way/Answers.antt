@@ -1,4 +1,3 @@
--- What is left of the way belongs behind what the room has.
 use native.Mathlib.Omega.{arith}
 use Rattle.branches.proofs.Joining.{left_start, left_is, left_end, child_fits, child_step}
 use Rattle.ways.proofs.Writing.{row_part, child_row, child_behind, way_own, way_done, top_row, top_covers, way_nil}

@@ -1,4 +1,3 @@
--- Row u is right below v, and clear from v on.
 use native.Mathlib.Omega.{arith}
 use Rattle.bits.proofs.Bits.{only_refl, only_then}
 use Rattle.document.proofs.Nodes.{row_all}

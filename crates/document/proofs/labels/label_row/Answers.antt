@@ -1,4 +1,3 @@
--- The first i bytes of row u are right, and the rest of it is clear.
 use mathlib.Core.Path.{◌≡◌, ◌∙◌}
 use Prim.Native.Nat.{◌/◌}
 use lib.ListN.{length}

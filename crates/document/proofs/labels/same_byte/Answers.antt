@@ -1,4 +1,3 @@
--- The first k bits of b are left where the nodes bear the label.
 use mathlib.Core.Path.{◌≡◌}
 use Prim.Native.Nat.{◌+◌}
 use native.Mathlib.Omega.{arith}

@@ -1,4 +1,3 @@
--- While the rows are good what is left to check from node x on decides, once the lengths are right.
 use native.Mathlib.Omega.{arith}
 use Rattle.document.proofs.Tables.{table_none, table_many, table_uneven, sofar_none, sofar_more, sofar_all}
 use Rattle.document.proofs.table.good_table.Goals as goal

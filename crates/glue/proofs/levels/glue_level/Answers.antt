@@ -8,7 +8,7 @@ returns-in_default c =
 
 pub merge_rows-requires : goal.merge_rows-requires
 merge_rows-requires c =
-    let p = c.requires in let r = p.4.right in record { from_le_y = (r, p.2, p.1, p.3, p.0.small, p.0.parents, p.0.labels); by_index = first_rows _ _ _ _ _ _ p.4 }
+    let p = c.requires in let r = p.4.right in record { sizes = (r, p.2, p.1, p.3, p.0.small, p.0.parents, p.0.labels); low_links = first_rows _ _ _ _ _ _ p.4 }
 
 pub returns : goal.returns
 returns c =

@@ -1,4 +1,3 @@
--- The loop climbs level by level: `Climb`. Each level takes a row out, so the number of rows falls.
 use mathlib.Core.Path.{◌∙◌}
 use native.Mathlib.Omega.{arith}
 use Rattle.glue.proofs.Climb.{climb_start, climb_row, climb_asks, climb_same, climb_next, climb_ends, climb_fails}

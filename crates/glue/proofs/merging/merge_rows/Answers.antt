@@ -7,11 +7,11 @@ use Rattle.glue.proofs.merging.merge_rows.Goals as goal
 
 pub offset_bounds-parent-z : goal.offset_bounds-parent-z
 offset_bounds-parent-z c =
-    let w = moved_row _ c.args.y c.args.n _ c.renumber-z.ensures c.requires.from_le_y.3 (omega arith) (omega arith) in omega arith
+    let w = moved_row _ c.args.y c.args.n _ c.renumber-z.ensures c.requires.sizes.3 (omega arith) (omega arith) in omega arith
 
 pub bounds-parent-z : goal.bounds-parent-z
 bounds-parent-z c =
-    let w = moved_row _ c.args.y c.args.n _ c.renumber-z.ensures c.requires.from_le_y.3 (omega arith) (omega arith) in omega (
+    let w = moved_row _ c.args.y c.args.n _ c.renumber-z.ensures c.requires.sizes.3 (omega arith) (omega arith) in omega (
       arith,
       c.relink_rows-2.ensures.same,
       c.relink_rows.ensures.same,
@@ -19,11 +19,11 @@ bounds-parent-z c =
 
 pub offset_bounds-label-z : goal.offset_bounds-label-z
 offset_bounds-label-z c =
-    let w = moved_row _ c.args.y c.args.n _ c.renumber-z.ensures c.requires.from_le_y.3 (omega arith) (omega arith) in omega arith
+    let w = moved_row _ c.args.y c.args.n _ c.renumber-z.ensures c.requires.sizes.3 (omega arith) (omega arith) in omega arith
 
 pub bounds-label-z : goal.bounds-label-z
 bounds-label-z c =
-    let w = moved_row _ c.args.y c.args.n _ c.renumber-z.ensures c.requires.from_le_y.3 (omega arith) (omega arith) in omega (arith, c.pull_labels.ensures.same)
+    let w = moved_row _ c.args.y c.args.n _ c.renumber-z.ensures c.requires.sizes.3 (omega arith) (omega arith) in omega (arith, c.pull_labels.ensures.same)
 
 pub shape_of-parent : goal.shape_of-parent
 shape_of-parent c =
@@ -31,4 +31,4 @@ shape_of-parent c =
 
 pub returns : goal.returns
 returns c =
-    merged_end _ _ _ _ _ _ _ _ _ c.requires.by_index c.relink_rows.ensures c.relink_rows-2.ensures c.pull_labels.ensures _ _ _ _ _ refl c.requires.from_le_y.0 c.requires.from_le_y.3 (omega arith) (omega arith) (omega arith) (omega arith) c.renumber-z.ensures c.relinked.ensures
+    merged_end _ _ _ _ _ _ _ _ _ c.requires.low_links c.relink_rows.ensures c.relink_rows-2.ensures c.pull_labels.ensures _ _ _ _ _ refl c.requires.sizes.0 c.requires.sizes.3 (omega arith) (omega arith) (omega arith) (omega arith) c.renumber-z.ensures c.relinked.ensures

@@ -1,4 +1,3 @@
--- The loop takes one label after the other: `Swept`.
 use mathlib.Core.Path.{refl}
 use native.Mathlib.Omega.{arith}
 use Rattle.glue.proofs.Sweeping.{swept_start, swept_more, swept_end}

@@ -1,4 +1,3 @@
--- The loop takes one link after the other: `Swept`.
 use native.Mathlib.Omega.{arith}
 use Rattle.glue.proofs.Sweeping.{swept_start, swept_more, swept_end}
 use Rattle.glue.proofs.merging.relink_rows.Goals as goal

@@ -1,4 +1,3 @@
--- The loop goes up edge by edge, and there are fewer edges than rows.
 use native.Mathlib.Omega.{arith}
 use Rattle.rows.specs.Table.{table}
 use Rattle.rows.proofs.Table.{parent_some}

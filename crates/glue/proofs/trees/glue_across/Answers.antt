@@ -7,24 +7,24 @@ use Rattle.glue.proofs.trees.glue_across.Goals as goal
 
 pub shift_rows-requires : goal.shift_rows-requires
 shift_rows-requires c =
-    let f = c.requires.rows_fit in record { nb_bound = (f.small, f.parents); by_index = links_small _ _ _ c.requires.tree_query.1.tree (let s = f.small in omega arith) }
+    let f = c.requires.rows_fit in record { sizes = (f.small, f.parents); low_links = links_small _ _ _ c.requires.tree_queries.1.tree (let s = f.small in omega arith) }
 
 pub overflow_add-t-2 : goal.overflow_add-t-2
 overflow_add-t-2 c =
-    let r = c.requires.rows_fit.small in let m = live_below _ _ _ _ c.requires.tree_query.1.d_live in omega arith
+    let r = c.requires.rows_fit.small in let m = live_below _ _ _ _ c.requires.tree_queries.1.d_live in omega arith
 
 pub overflow_add-na : goal.overflow_add-na
 overflow_add-na c =
-    let r = c.requires.rows_fit.small in let m = live_below _ _ _ _ c.requires.tree_query.1.s_live in omega arith
+    let r = c.requires.rows_fit.small in let m = live_below _ _ _ _ c.requires.tree_queries.1.s_live in omega arith
 
 pub glue_rows-requires : goal.glue_rows-requires
 glue_rows-requires c =
     let f = c.requires.rows_fit in let s = c.shift_rows in let k = s.auto.parent in (
       record { small = f.small; parents = omega arith; labels = f.labels },
-      across_safe _ _ _ _ c.requires.tree_query.0 c.requires.tree_query.1 s.new.parent (s.ensures c.args.label.now) c.args.both _ c.meeting.ensures,
+      across_safe _ _ _ _ c.requires.tree_queries.0 c.requires.tree_queries.1 s.new.parent (s.ensures c.args.label.now) c.args.both _ c.meeting.ensures,
     )
 
 pub returns : goal.returns
 returns c =
-    let s = c.shift_rows in let g = c.glue_rows in let v = c.requires.tree_query in across_end _ _ _ _ v.0 v.1 s.new.parent (s.ensures c.args.label.now) c.args.both _ c.meeting.ensures
+    let s = c.shift_rows in let g = c.glue_rows in let v = c.requires.tree_queries in across_end _ _ _ _ v.0 v.1 s.new.parent (s.ensures c.args.label.now) c.args.both _ c.meeting.ensures
     g.result g.new.parent g.new.label g.ensures

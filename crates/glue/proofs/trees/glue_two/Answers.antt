@@ -12,12 +12,12 @@ returns-then-q-eq0 c = let a = c.args in two_second a.both a.p a.q a.parent.now 
 
 pub glue_across-t-requires : goal.glue_across-t-requires
 glue_across-t-requires c =
-    record { rows_fit = c.requires.rows_fit; tree_query = two_trees c.args.both _ _ _ _ c.if-p-eq0.false c.if-q-eq0.false c.requires.tree_o }
+    record { rows_fit = c.requires.rows_fit; tree_queries = two_trees c.args.both _ _ _ _ c.if-p-eq0.false c.if-q-eq0.false c.requires.trees }
 
 pub glue_within-requires : goal.glue_within-requires
 glue_within-requires c =
     let fit = c.requires.rows_fit in
-    let g = c.glue_across-t in let (vp, vq) = two_trees c.args.both _ _ _ _ c.if-p-eq0.false c.if-q-eq0.false c.requires.tree_o in
+    let g = c.glue_across-t in let (vp, vq) = two_trees c.args.both _ _ _ _ c.if-p-eq0.false c.if-q-eq0.false c.requires.trees in
     let few = across_few _ _ _ _ vp vq c.args.both g.result g.new.parent g.new.label g.ensures in
     let kp = g.auto.parent in let kl = g.auto.label in (
       record { small = omega (arith, few, fit.small); parents = omega (arith, few, kp, fit.parents); labels = omega (arith, few, kl, fit.labels) },

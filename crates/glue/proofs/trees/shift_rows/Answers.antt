@@ -1,4 +1,3 @@
--- The loop shifts the links of the second table: `Swept`.
 use mathlib.Core.Path.{refl}
 use native.Mathlib.Omega.{arith}
 use Rattle.glue.proofs.Sweeping.{swept_start, swept_end, here_more}
@@ -9,7 +8,7 @@ pub loop-i-init : goal.loop-i-init
 loop-i-init c = (omega arith, omega arith, refl, swept_start _ _ _ _)
 
 pub shifted-p-requires : goal.shifted-p-requires
-shifted-p-requires c = (omega arith, shift_small _ _ _ _ _ c.loop-i.invariant.3 c.loop-i.invariant.0 c.loop-i-test.true c.requires.by_index)
+shifted-p-requires c = (omega arith, shift_small _ _ _ _ _ c.loop-i.invariant.3 c.loop-i.invariant.0 c.loop-i-test.true c.requires.low_links)
 
 pub loop-i-preserved : goal.loop-i-preserved
 loop-i-preserved c =

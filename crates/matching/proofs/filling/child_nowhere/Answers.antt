@@ -1,4 +1,3 @@
--- Row u is needed by its children from c on, and none before c is clear.
 use mathlib.Core.Path.{sym, ◌∙◌}
 use native.Mathlib.Omega.{arith}
 use Rattle.bits.proofs.Bits.{row_clear_lem}

@@ -1,4 +1,3 @@
--- What is left of row u, and the children from c on, say where u can be laid.
 use mathlib.Core.Path.{sym, ◌∙◌}
 use native.Mathlib.Omega.{arith}
 use borrow.Author.Rules.{rules}

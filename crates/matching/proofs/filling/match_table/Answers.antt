@@ -1,4 +1,3 @@
--- The rows from u on are filled, all other bits are clear.
 use native.Mathlib.Omega.{arith}
 use Rattle.matching.proofs.Filled.{filled_none, filled_ready, filled_more, filled_all}
 use Rattle.matching.proofs.filling.match_table.Goals as goal

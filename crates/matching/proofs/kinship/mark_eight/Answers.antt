@@ -1,4 +1,3 @@
--- The parents of the first k nodes are flagged.
 use mathlib.Core.Path.{◌≡◌}
 use Prim.Native.Nat.{◌+◌}
 use native.Mathlib.Omega.{arith}

@@ -1,4 +1,3 @@
--- The parents of the nodes of the first k bits are flagged.
 use borrow.Author.Rules.{rules}
 use mathlib.Core.Path.{◌≡◌}
 use mathlib.Core.Bool.{true}

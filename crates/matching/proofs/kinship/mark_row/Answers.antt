@@ -1,4 +1,3 @@
--- The parents of the nodes below 8i are flagged.
 use borrow.Author.Rules.{rules}
 use mathlib.Core.Path.{◌∙◌}
 use Prim.Native.Nat.{◌+◌, ◌*◌, ◌<◌}

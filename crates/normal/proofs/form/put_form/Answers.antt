@@ -12,7 +12,7 @@ put_byte-requires c = omega (arith, c.requires.1, ap length (form_empty c.requir
 
 pub returns-then-n-eq0 : goal.returns-then-n-eq0
 returns-then-n-eq0 c =
-    written_is (sym (form_empty c.requires.0 c.if-n-eq0.true)) (record { place = c.put_byte.ensures.value; bytes = c.put_byte.ensures.out_after })
+    written_is (sym (form_empty c.requires.0 c.if-n-eq0.true)) (record { place = c.put_byte.ensures.place; bytes = c.put_byte.ensures.bytes })
 
 pub row_of-s-requires : goal.row_of-s-requires
 row_of-s-requires c = (omega arith, borne_src c.requires.0 c.if-n-eq0.false)
@@ -42,7 +42,7 @@ pub returns-then-end-at : goal.returns-then-end-at
 returns-then-end-at c =
     let (Q, f) = c.requires in
     let (e, z) = form_none Q c.if-n-eq0.false c.row_of-s.ensures c.row_of-d.ensures c.lowest-t.ensures _ c.factors-end.ensures c.if-end-at.true in
-    written_is (sym e) (record { place = c.put_byte-then-end-at.ensures.value; bytes = rw z at c.put_byte-then-end-at.ensures.out_after })
+    written_is (sym e) (record { place = c.put_byte-then-end-at.ensures.place; bytes = rw z at c.put_byte-then-end-at.ensures.bytes })
 
 pub returns : goal.returns
 returns c =

@@ -1,4 +1,3 @@
--- The weight so far and that of the rows that are left are the weight of all rows.
 use mathlib.Core.Path.{◌≡◌}
 use Prim.Native.Nat.{◌-◌}
 use native.Mathlib.Omega.{arith}

@@ -1,4 +1,3 @@
--- One cursor goes through the word, as in `check_signs` (crate word). Before each sign the pool holds what is pending there, and how far the word is read: `Reading`.
 use native.Mathlib.Omega.{arith}
 use Rattle.pool.proofs.Reading.{reading_start, reading_passes, reading_next, reading_last}
 use Rattle.pool.proofs.build.apply_signs.Goals as goal

@@ -5,7 +5,7 @@ use Rattle.pool.proofs.Reading.{holds_start, last_fits, reading_end}
 use Rattle.pool.proofs.build.build.Goals as goal
 
 pub apply_signs-requires : goal.apply_signs-requires
-apply_signs-requires c = (c.requires.word_value, holds_start _ _ c.args.first.now _ _ c.requires.pool_rows_in_bounds)
+apply_signs-requires c = (c.requires.accepted, holds_start _ _ c.args.first.now _ _ c.requires.sizes)
 
 pub operand-requires : goal.operand-requires
 operand-requires c = let (e, w, h) = c.apply_signs.ensures in last_fits _ e h

@@ -39,7 +39,7 @@ pub glue_two-r-requires : goal.glue_two-r-requires
 glue_two-r-requires c =
     let p = c.requires in let g = c.args in let x = c.operand-p.ensures g.parent.now g.label.now in
     let y = c.operand-q.ensures g.parent.now g.label.now in
-    let a = c.link-a.ensures.0 in record { rows_fit = (lent_fits _ _ p.0 p.1.0 _ a _ _ x y).2; tree_o = lent_trees _ _ p.0 p.1.0 _ a _ _ x y p.1.1 }
+    let a = c.link-a.ensures.0 in record { rows_fit = (lent_fits _ _ p.0 p.1.0 _ a _ _ x y).2; trees = lent_trees _ _ p.0 p.1.0 _ a _ _ x y p.1.1 }
 
 pub returns : goal.returns
 returns c f e g q o₁ o₂ =

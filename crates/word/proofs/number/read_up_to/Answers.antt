@@ -1,4 +1,3 @@
--- The loop reads group after group; `Reading` says what the groups so far and the bytes to come give together.
 use Rattle.std.proofs.Common.{⊎_elim, inl, inr, arith}
 use Rattle.word.proofs.Reading.{reading_cut, reading_zero, reading_last, reading_above, reading_far, reading_more}
 use Rattle.word.proofs.number.read_up_to.Goals as goal
