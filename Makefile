@@ -10,7 +10,7 @@ SEED ?= 20011
 example:
 	printf '\002\012\004\005\002\005\004' | tools/run reduce
 
-# The gate: proofs from nothing, must-fail edits, programs, the example client, and the comparison with the second implementation.
+# The gate: proofs, must-fail edits, programs, the example client, and the comparison with the second implementation.
 test:
 	tools/test
 
