@@ -10,11 +10,12 @@ use native.Mathlib.Decide.{ℕ_discrete, dec_lt}
 use lib.ListN.{length, get_or, length-append}
 use borrow.Author.Tests.{lt-ltb, le-ltb}
 use Rattle.meaning.specs.Basics.{look}
+use Rattle.meaning.specs.Limits.{most_nodes}
 use Rattle.meaning.specs.Tree.{Forest, bare, tree, size, preorder}
 use Rattle.meaning.specs.Image.{lab_code, mark_code}
 use Rattle.theory.proofs.Look.{look_left, look_right}
 use Rattle.bits.specs.Bits.{bit_of}
-use Rattle.rows.specs.Rows.{lab_of, tag_at, brothers, below, shape, map_t, tree_rows, Holds, width, Counted, Hung, no_row, Rows}
+use Rattle.rows.specs.Rows.{lab_of, tag_at, brothers, below, shape, map_t, tree_rows, Holds, width, Counted, Hung, no_row, Reaches, Rows}
 
 -- ------------------------------------------------------------------ what a code and a mark stand for
 pub lab_code_lem : (c : ℕ) → lab_code (lab_of c) ≡ c
@@ -88,6 +89,16 @@ holds_opens span u e (tree i k r) h c l m = go h.0 (ℕ_discrete c u) (dec_lt c 
         let o = f (omega arith) d in
         let s = size_holds span (suc i + size k) e r h.3 in
         record { some = o.some; inside = omega (arith, o.inside); held = o.held }
+
+-- every row among those of a tree reaches as far as its span says, and so do all below it
+pub holds_reaches : (span : List ℕ) (n : ℕ) (F : Forest ℕ) → Holds span 0 n F → n ≤ most_nodes → (u : ℕ) → u < n → Reaches span u
+holds_reaches span n F h few u l =
+    let o = holds_opens span 0 n F h u (omega arith) l in
+    record {
+      within = omega arith;
+      inside = omega (arith, o.inside);
+      onward = λ c a b. (holds_opens span 0 n F h c (omega arith) (omega (arith, o.inside))).some;
+    }
 
 -- ------------------------------------------------------------------ row u is node u in image order
 look_beyond : {A : Type 0} (xs : List A) (i : ℕ) → length xs ≤ i → look xs i ≡ none

@@ -61,6 +61,12 @@ map_t f (tree a k r) = tree (f a) (map_t f k) (map_t f r)
 unfoldable pub tree_rows : List ℕ → List ℕ → List ℕ → ℕ → Forest Tag
 tree_rows code mark span n = map_t (tag_at code mark) (shape span n)
 
+-- row u and all that lies below it have their place in a table, and each of these rows takes itself
+pub record Reaches (span : List ℕ) (u : ℕ) : Type 0 where
+  pub within : u < most_nodes
+  pub inside : u + get_or span u 0 ≤ most_nodes
+  pub onward : (c : ℕ) → u < c → c < u + get_or span u 0 → 0 < get_or span c 0
+
 -- ------------------------------------------------------------------ when rows are a tree
 -- the rows from u up to e are laid out as the forest is
 abbrev pub Holds : List ℕ → ℕ → ℕ → Forest ℕ → Type 0

@@ -2,6 +2,8 @@
 // One call for each read keeps the proofs of its callers short.
 #![tactic(auto)]
 
+pub mod brothers; // brothers.rt: the children of a row, one after the other
+
 ghost use Rattle.std.specs.Prelude.{◌≡◌, ◌<◌, length, get_or, set};
 ghost use Rattle.meaning.specs.Limits.{most_nodes};
 ghost use Rattle.rows.specs.Rows.{Borne, FirstRow, covers};
@@ -19,6 +21,17 @@ pub type Codes = [u32; MOST_NODES];
 
 // A mark for each node.
 pub type Marks = [u8; MOST_NODES];
+
+// A tree in image order: the first `len` rows, and no rows for empty. It is lent and never copied: it takes some kilobytes.
+#[derive(Drop)]
+pub struct TreeRows {
+    pub code: Codes,
+    pub mark: Marks,
+    pub kids: Links,
+    pub span: Links,
+    pub up: Links,
+    pub len: usize,
+}
 
 // The parent of the top: no row.
 pub const NO_ROW: u16 = 65535;
@@ -46,9 +59,9 @@ pub fn link(t: &[u16], i: usize) -> usize
     wide(t[i])
 }
 
-// What stands for node u in a table of one number a node.
-pub fn at(t: &Links, u: usize) -> usize
-    requires { u < most_nodes }
+// What stands for node u in a table of one number a node. A table of a fixed size is lent as one pointer, a slice as a pointer to two words.
+pub fn at<const N: usize>(t: &[u16; N], u: usize) -> usize
+    requires { u < N }
     ensures { (result ≡ get_or t.now u 0) × (result < 65536) }
 {
     wide(t[u])
@@ -63,14 +76,12 @@ pub fn set_link(t: &mut [u16], i: usize, v: usize)
 }
 
 // Row x lies at or below row c.
+#[tactic(auto, unfolding(crate::specs::Rows::covers))]
 pub fn holds(span: &Links, c: usize, x: usize) -> bool
     requires { c < most_nodes }
     ensures { result ≡ covers span.now c x }
 {
-    if x < c {
-        return false;
-    }
-    x < c + at(span, c)
+    c <= x && x < c + at(span, c)
 }
 
 // The first row that bears the mark: bit S or bit D.
@@ -78,9 +89,29 @@ pub fn row_of(mark: &Marks, bit: usize) -> usize
     requires { (bit < 8) × Borne mark.now bit }
     ensures { FirstRow mark.now bit result }
 {
-    let mut u: usize = 0;
-    while !bits::bit_of(mark[u], bit) {
-        u += 1;
+    mark.iter().position(|m| bits::bit_of(*m, bit)).unwrap()
+}
+
+impl TreeRows {
+    // No rows yet.
+    pub fn none() -> Self
+        ensures { result.len ≡ 0 }
+    {
+        TreeRows {
+            code: [0; MOST_NODES],
+            mark: [0; MOST_NODES],
+            kids: [0; MOST_NODES],
+            span: [0; MOST_NODES],
+            up: [0; MOST_NODES],
+            len: 0,
+        }
     }
-    u
+
+    // Row x lies at or below row c.
+    pub fn holds(&self, c: usize, x: usize) -> bool
+        requires { c < most_nodes }
+        ensures { result ≡ covers self.now.span c x }
+    {
+        holds(&self.span, c, x)
+    }
 }

@@ -53,7 +53,7 @@ chain-join-place-requires t c =
     let (uc, es, O) = c.loop-c.invariant in later_joint O uc c.loop-c-test.true c.branch-past.ensures
 
 pub chain-at-c-requires : goal.chain-at-c-requires
-chain-at-c-requires t c = row_few (c.loop-c.invariant.2.row _ c.loop-c-test.true)
+chain-at-c-requires t c = (omega arith, row_few (c.loop-c.invariant.2.row _ c.loop-c-test.true))
 
 pub chain-loop-c-smaller : goal.chain-loop-c-smaller
 chain-loop-c-smaller t c = omega (arith, (off_opens c.loop-c.invariant.2 c.loop-c-test.true).some, c.at-c.ensures.0, c.loop-c-test.true)

@@ -18,7 +18,7 @@ pub put_off-place-requires : goal.put_off-place-requires
 put_off-place-requires c = let l = c.loop-c in (l.invariant.row l.c c.loop-c-test.true, off_fits l.invariant c.loop-c-test.true)
 
 pub at-c-requires : goal.at-c-requires
-at-c-requires c = row_few (c.loop-c.invariant.row _ c.loop-c-test.true)
+at-c-requires c = (omega arith, row_few (c.loop-c.invariant.row _ c.loop-c-test.true))
 
 pub overflow_add-c-in-loop-c : goal.overflow_add-c-in-loop-c
 overflow_add-c-in-loop-c c = omega (arith, row_few (c.loop-c.invariant.row _ c.loop-c-test.true), c.at-c.ensures.1)

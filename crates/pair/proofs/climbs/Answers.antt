@@ -21,7 +21,7 @@ returns-then-not-can_climb c =
 pub at-c-requires : goal.at-c-requires
 at-c-requires c =
     let (_, q, lu, _) = c.requires in
-    linked q c.loop-c.c (c.loop-c.invariant.1 _ q lu).0
+    (omega arith, linked q c.loop-c.c (c.loop-c.invariant.1 _ q lu).0)
 
 pub loop-c-smaller : goal.loop-c-smaller
 loop-c-smaller c =

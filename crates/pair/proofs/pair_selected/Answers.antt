@@ -25,7 +25,7 @@ returns-then-not-can_climb c =
 
 pub at-u-requires : goal.at-u-requires
 at-u-requires c =
-    let q = c.requires.0 in linked q c.loop-u.u (c.loop-u.invariant.2 q).0
+    let q = c.requires.0 in (omega arith, linked q c.loop-u.u (c.loop-u.invariant.2 q).0)
 
 pub loop-u-smaller-then-v-u : goal.loop-u-smaller-then-v-u
 loop-u-smaller-then-v-u c =
@@ -48,7 +48,7 @@ returns-then-not-can_climb-2 c =
 
 pub at-v-requires : goal.at-v-requires
 at-v-requires c =
-    let q = c.requires.0 in linked q c.loop-u.v (c.loop-u.invariant.2 q).1
+    let q = c.requires.0 in (omega arith, linked q c.loop-u.v (c.loop-u.invariant.2 q).1)
 
 pub loop-u-smaller : goal.loop-u-smaller
 loop-u-smaller c =
