@@ -5,6 +5,39 @@
 ghost use Rattle.std.specs.Prelude.{◌≡◌, [], ◌∷◌, ◌+◌, ◌<◌, ◌≤◌, length};
 ghost use Rattle.meaning.specs.Number.{num};
 ghost use Rattle.groups.specs.Put.{put};
+ghost use Rattle.groups.specs.Filled.{filled};
+
+// "The caller's room together with the number of bytes already filled."
+#[derive(Drop)]
+pub struct Writer<'a> {
+    pub room: &'a mut [u8],
+    pub length: usize,
+}
+
+impl<'a> Writer<'a> {
+    // One byte more.
+    #[tactic(auto, unfolding(crate::specs::Put::put))]
+    pub fn put_byte(&mut self, b: u8)
+        requires { self.old.length < length self.old.room.now }
+        ensures { self.new ≡ filled self.old (b ∷ []) }
+    {
+        self.room[self.length] = b;
+        self.length += 1;
+    }
+
+    // "Low group first; a byte's top bit is set when another group follows."
+    pub fn put_number(&mut self, x: u32)
+        requires { self.old.length + length (num x) ≤ length self.old.room.now }
+        ensures { self.new ≡ filled self.old (num x) }
+    {
+        let mut rest = x;
+        while 128 <= rest {
+            self.put_byte((128 + rest % 128) as u8);
+            rest /= 128;
+        }
+        self.put_byte(rest as u8);
+    }
+}
 
 // How many bytes a number takes.
 pub fn number_length(x: u32) -> usize
