@@ -13,6 +13,7 @@ pub fn read_full<R: Read>(from: &mut R, buffer: &mut [u8]) -> io::Result<usize>
     ensures ok { IfOk result (λ n. IsPrefixLen n buffer.new) }
     ensures err { OnErr result (length buffer.new ≡ length buffer.old) }
 {
+    // No method of std stands for the loop: `read_exact` doesn't tell how many bytes came before the end, and `read_to_end` asks for a Vec (no heap).
     let mut done: usize = 0;
     while done < buffer.len() {
         let n = from.read(&mut buffer[done..])?;

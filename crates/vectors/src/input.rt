@@ -4,108 +4,108 @@
 ghost use Rattle.std.specs.Prelude.{◌≡◌, ◌≤◌, length, IfOk, OnErr};
 ghost use Rattle.streams.specs.Counts.{IsPrefixLen};
 
-use std::io;
 use std::io::Read;
+use std::{fmt, io};
 use streams::read_full;
 
-// What is left of a case: a number of bytes, below 2^32, or what is wrong with the case, which stays.
-pub const ENDS_ELSEWHERE: u64 = 4294967296;
+// What is wrong with a case: it has another length than it says, the corpus ends in it, or a length in it is above what the buffer holds.
+#[derive(Clone, Copy)]
+pub enum Damage {
+    EndsElsewhere,
+    CutOff,
+    TooLong,
+}
 
-pub const CUT_OFF: u64 = 4294967297;
+impl fmt::Display for Damage {
+    fn fmt<W: fmt::Write>(&self, f: &mut fmt::Formatter<W>) -> fmt::Result {
+        match self {
+            Damage::EndsElsewhere => write!(f, "ends elsewhere"),
+            Damage::CutOff => write!(f, "is cut off"),
+            Damage::TooLong => write!(f, "is longer than its buffer"),
+        }
+    }
+}
 
-pub const TOO_LONG: u64 = 4294967298;
+// The corpus from here on, and how many bytes are left of the case, or what is wrong with it. What is wrong first stays, and reading goes on to the
+// end of the case: a read that fails there is still told.
+#[derive(Drop)]
+pub struct Input<R> {
+    pub from: R,
+    pub left: Result<usize, Damage>,
+}
 
 // What is left when so many bytes were asked for, so many could be held, and so many came.
-fn rest(left: u64, asked: usize, held: usize, came: usize) -> u64 {
-    if ENDS_ELSEWHERE <= left {
-        return left;
-    }
+fn rest(left: usize, asked: usize, held: usize, came: usize) -> Result<usize, Damage> {
     if held < asked {
-        return TOO_LONG;
+        return Err(Damage::TooLong);
     }
     if came < asked {
-        return CUT_OFF;
+        return Err(Damage::CutOff);
     }
-    if left < asked as u64 {
-        return ENDS_ELSEWHERE;
+    left.checked_sub(asked).ok_or(Damage::EndsElsewhere)
+}
+
+impl<R: Read> Input<R> {
+    fn count(&mut self, asked: usize, held: usize, came: usize) {
+        self.left = self.left.and_then(|left| rest(left, asked, held, came));
     }
-    left - asked as u64
-}
 
-pub fn wide(b: u8) -> u32
-    ensures { result ≤ 255 }
-{
-    b as u32
-}
-
-// How many bytes of the buffer can be lent where so many are asked for.
-pub fn within(buffer: &[u8], bytes: usize) -> usize
-    ensures { IsPrefixLen result buffer.now }
-{
-    if bytes < buffer.len() {
-        bytes
-    } else {
-        buffer.len()
+    // So many bytes, put at the start of the buffer; how many they are, or as many as it holds.
+    pub fn bytes(&mut self, buffer: &mut [u8], asked: usize) -> io::Result<usize>
+        ensures ok { IfOk result (λ n. IsPrefixLen n buffer.new) }
+        ensures err { OnErr result ((self.new.left ≡ self.old.left) × (length buffer.new ≡ length buffer.old)) }
+    {
+        let held = asked.min(buffer.len());
+        let came = read_full(&mut self.from, &mut buffer[..held])?;
+        self.count(asked, held, came);
+        Ok(held)
     }
-}
 
-// So many bytes, put at the start of the buffer; how many they are, or as many as it holds.
-pub fn next_bytes<R: Read>(
-    from: &mut R,
-    left: &mut u64,
-    buffer: &mut [u8],
-    bytes: usize,
-) -> io::Result<usize>
-    ensures ok { IfOk result (λ n. IsPrefixLen n buffer.new) }
-    ensures err { OnErr result ((left.new ≡ left.old) × (length buffer.new ≡ length buffer.old)) }
-{
-    let lent = within(buffer, bytes);
-    let came = read_full(from, &mut buffer[..lent])?;
-    *left = rest(*left, bytes, lent, came);
-    Ok(within(buffer, bytes))
-}
-
-fn pair(low: u8, high: u8) -> u32
-    ensures { result ≤ 65535 }
-{
-    low as u32 + 256 * high as u32
-}
-
-pub fn next_number<R: Read>(from: &mut R, left: &mut u64) -> io::Result<u32>
-    ensures { OnErr result (left.new ≡ left.old) }
-{
-    let mut b = [0u8; 4];
-    next_bytes(from, left, &mut b, 4)?;
-    Ok(pair(b[0], b[1]) + 65536 * pair(b[2], b[3]))
-}
-
-pub fn next_long<R: Read>(from: &mut R, left: &mut u64) -> io::Result<u64> {
-    let low = next_number(from, left)?;
-    let high = next_number(from, left)?;
-    Ok(low as u64 + 4294967296 * high as u64)
-}
-
-// A length that is promised to be at most so much.
-pub fn next_length<R: Read>(from: &mut R, left: &mut u64, most: usize) -> io::Result<usize>
-    ensures ok { IfOk result (λ n. n ≤ most) }
-    ensures err { OnErr result (left.new ≡ left.old) }
-{
-    let length = next_number(from, left)? as usize;
-    if length <= most {
-        return Ok(length);
+    pub fn number(&mut self) -> io::Result<u32>
+        ensures { OnErr result (self.new.left ≡ self.old.left) }
+    {
+        let mut bytes = [0; 4];
+        self.bytes(&mut bytes, 4)?;
+        Ok(u32::from_le_bytes(bytes))
     }
-    *left = rest(*left, length, most, 0);
-    Ok(most)
-}
 
-// A list of numbers, put at the start of list; how many they are.
-pub fn next_list<R: Read>(from: &mut R, left: &mut u64, list: &mut [u32]) -> io::Result<usize>
-    ensures ok { IfOk result (λ n. IsPrefixLen n list.new) }
-    ensures err { OnErr result (length list.new ≡ length list.old) }
-{
-    let rows = next_length(from, left, list.len())?;
-    for i in 0..rows {
-        list[i] = next_number(from, left)?;
+    // Two numbers, the lower first, and not eight bytes at once: a case can end between them, and what is wrong with it then is told of the second.
+    pub fn long(&mut self) -> io::Result<u64> {
+        let low = self.number()?;
+        let high = self.number()?;
+        Ok(u64::from(high) << 32 | u64::from(low))
     }
-    Ok(rows)
+
+    // A length that is promised to be at most so much.
+    pub fn length(&mut self, most: usize) -> io::Result<usize>
+        ensures ok { IfOk result (λ n. n ≤ most) }
+        ensures err { OnErr result (self.new.left ≡ self.old.left) }
+    {
+        let length = self.number()? as usize;
+        if length <= most {
+            return Ok(length);
+        }
+        self.count(length, most, 0);
+        Ok(most)
+    }
+
+    // A list of numbers, put at the start of list; how many they are.
+    pub fn list(&mut self, list: &mut [u32]) -> io::Result<usize>
+        ensures ok { IfOk result (λ n. IsPrefixLen n list.new) }
+        ensures err { OnErr result (length list.new ≡ length list.old) }
+    {
+        let rows = self.length(list.len())?;
+        for row in &mut list[..rows] {
+            *row = self.number()?;
+        }
+        Ok(rows)
+    }
+
+    // Whether the case ends here.
+    pub fn ended(&self) -> Result<(), Damage> {
+        match self.left? {
+            0 => Ok(()),
+            _ => Err(Damage::EndsElsewhere),
+        }
+    }
 }

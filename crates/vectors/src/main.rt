@@ -5,95 +5,73 @@
 mod call;
 mod input;
 
-ghost use Rattle.std.specs.Prelude.{◌≡◌, ◌≤◌, length, IfOk};
+ghost use Rattle.std.specs.Prelude.{◌≤◌, IfOk};
 
-use call::{Form, run_form, run_question};
-use input::{CUT_OFF, ENDS_ELSEWHERE, TOO_LONG, next_bytes, next_long, next_number};
+use call::{run_form, run_question};
+use input::{Damage, Input};
+use pathplus::{pathplus_minimal_image, pathplus_normal_form, pathplus_plain_image};
 use std::io;
 use std::io::{Print, Read};
 
-// The eight bytes `GULPHCO1`, read as a number.
-const CORPUS: u64 = 0x314F4348504C5547;
+// What a corpus begins with.
+const CORPUS: &[u8; 8] = b"GULPHCO1";
 
 // No word of the corpus is longer.
 const WORD: usize = 65536;
 
-fn empty_word() -> [u8; WORD]
-    ensures { 65536 ≡ length result }
-{
-    [0; WORD]
-}
-
 // The line of a call that differs: its case, and its place there, from 1. Where the case is damaged, that is told instead.
-fn judge<P: Print>(rt: &P, case: u32, call: u64, same: bool, left: u64) -> io::Result<()> {
-    if same {
+fn judge<P: Print, R>(
+    rt: &P,
+    input: &Input<R>,
+    case: u32,
+    call: u64,
+    same: bool,
+) -> io::Result<()> {
+    if same || input.left.is_err() {
         return Ok(());
     }
-    if left < ENDS_ELSEWHERE {
-        println!(rt; "{case} differs in call {call}")?;
-    }
-    Ok(())
+    println!(rt; "{case} differs in call {call}")
 }
 
 // Makes the calls of one case, "plain image, minimal image, normal form; u32 number of questions (0 or 1), the questions", and answers how many
-// they are.
+// they are. Each writer is called in a closure: passed by its name it has no proof here (tried), since its module is not exported.
 fn run_calls<P: Print, R: Read>(
     rt: &P,
-    from: &mut R,
+    input: &mut Input<R>,
     case: u32,
-    left: &mut u64,
     word: &[u8],
 ) -> io::Result<u64>
     ensures { IfOk result (λ n. n ≤ 4) }
 {
-    let plain = run_form(from, left, Form::Plain, word)?;
-    judge(rt, case, 1, plain, *left)?;
-    let minimal = run_form(from, left, Form::Minimal, word)?;
-    judge(rt, case, 2, minimal, *left)?;
-    let normal = run_form(from, left, Form::Normal, word)?;
-    judge(rt, case, 3, normal, *left)?;
-    if next_number(from, left)? == 0 {
+    let plain = run_form(input, word, |word, room| pathplus_plain_image(word, room))?;
+    judge(rt, input, case, 1, plain)?;
+    let minimal = run_form(input, word, |word, room| pathplus_minimal_image(word, room))?;
+    judge(rt, input, case, 2, minimal)?;
+    let normal = run_form(input, word, |word, room| pathplus_normal_form(word, room))?;
+    judge(rt, input, case, 3, normal)?;
+    if input.number()? == 0 {
         return Ok(3);
     }
-    let question = run_question(from, left, word)?;
-    judge(rt, case, 4, question, *left)?;
+    let question = run_question(input, word)?;
+    judge(rt, input, case, 4, question)?;
     Ok(4)
 }
 
-// What is wrong with a case: the corpus ends in it, or a length in it is above what the buffer holds, or it has another length than it says.
-fn write_damage<P: Print>(rt: &P, left: u64) -> io::Result<()> {
-    if left == CUT_OFF {
-        return println!(rt; " is cut off");
-    }
-    if left == TOO_LONG {
-        return println!(rt; " is longer than its buffer");
-    }
-    println!(rt; " ends elsewhere")
-}
-
-// How many calls a case counts for, where this is left of it: so many, or none if it is damaged.
-fn finish<P: Print>(rt: &P, case: u32, left: u64, calls: u64) -> io::Result<u64>
-    ensures { IfOk result (λ n. n ≤ calls) }
+// Goes through one case, "u32 length of what follows; word;" and its calls, and answers how many they are, or what is wrong with it.
+fn run_case<P: Print, R: Read>(
+    rt: &P,
+    input: &mut Input<R>,
+    case: u32,
+) -> io::Result<Result<u64, Damage>>
+    ensures { IfOk result (λ made. IfOk made (λ n. n ≤ 4)) }
 {
-    if left == 0 {
-        return Ok(calls);
-    }
-    print!(rt; "{case}")?;
-    write_damage(rt, left)?;
-    Ok(0)
-}
-
-// Goes through one case, "u32 length of what follows; word;" and its calls, and answers how many they are, or 0 where it is damaged.
-fn run_case<P: Print, R: Read>(rt: &P, from: &mut R, case: u32) -> io::Result<u64>
-    ensures { IfOk result (λ n. n ≤ 4) }
-{
-    let mut left: u64 = 4; // Its length. Where that is cut off, so is what follows
-    left = next_number(from, &mut left)? as u64;
-    let length = next_number(from, &mut left)? as usize;
-    let mut buffer = empty_word();
-    let n = next_bytes(from, &mut left, &mut buffer, length)?;
-    let calls = run_calls(rt, from, case, &mut left, &buffer[..n])?;
-    finish(rt, case, left, calls)
+    input.left = Ok(4); // Its length. Where that is cut off, so is what follows
+    input.left = Ok(input.number()? as usize);
+    let length = input.number()? as usize;
+    let mut buffer = [0; WORD];
+    let n = input.bytes(&mut buffer, length)?;
+    let calls = run_calls(rt, input, case, &buffer[..n])?;
+    Ok(input.ended().map(|()| calls))
 }
 
 fn write_counts<P: Print>(rt: &P, cases: u32, calls: u64) -> io::Result<()> {
@@ -101,26 +79,30 @@ fn write_counts<P: Print>(rt: &P, cases: u32, calls: u64) -> io::Result<()> {
 }
 
 // Goes through so many cases, or up to the first that is damaged.
-fn walk<P: Print, R: Read>(rt: &P, from: &mut R, cases: u32) -> io::Result<()> {
+fn walk<P: Print, R: Read>(rt: &P, input: &mut Input<R>, cases: u32) -> io::Result<()> {
     let mut calls: u64 = 0;
     for i in 0..cases {
-        let made = run_case(rt, from, i)?;
-        if made == 0 {
-            return write_counts(rt, i, calls);
+        match run_case(rt, input, i)? {
+            Ok(made) => calls += made,
+            Err(damage) => {
+                println!(rt; "{i} {damage}")?;
+                return write_counts(rt, i, calls);
+            }
         }
-        calls += made;
     }
     write_counts(rt, cases, calls)
 }
 
 // The corpus is "the eight bytes `GULPHCO1`, u32 number of cases, u32 length of the longest case, the cases".
 fn main(rt: HostRuntime) -> io::Result<()> {
-    let mut from = rt.stdin();
-    let mut left: u64 = 16;
-    if next_long(&mut from, &mut left)? != CORPUS {
+    let mut input = Input {
+        from: rt.stdin(),
+        left: Ok(16),
+    };
+    if input.long()? != u64::from_le_bytes(*CORPUS) {
         return println!(rt; "no corpus");
     }
-    let cases = next_number(&mut from, &mut left)?;
-    next_number(&mut from, &mut left)?;
-    walk(&rt, &mut from, cases)
+    let cases = input.number()?;
+    input.number()?;
+    walk(&rt, &mut input, cases)
 }
