@@ -1,4 +1,6 @@
 -- Gluing level by level in place: `Climb` says that what is left to glue, in the rows as they are now, gives what was asked for.
+use Rattle.std.specs.Prelude as code
+use Rattle.std.specs.Prelude.{Some, None}
 use mathlib.Core.Path.{◌≡◌, refl, sym, ap, subst, ◌∙◌}
 use mathlib.Core.Logic.{◌≢◌}
 use mathlib.Core.Option.{Option, none, some}
@@ -13,12 +15,10 @@ use Rattle.rows.specs.Rows.{lab_of}
 use Rattle.theory.proofs.Look.{never}
 use Rattle.theory.proofs.Apart.{Safe, safe_next}
 use Rattle.rows.specs.Table.{parent_of, table}
-use Rattle.rows.proofs.Table.{at_table, row_table, live_below, rows_some}
+use Rattle.rows.proofs.Table.{at_table, row_table, live_below}
 use Rattle.glue.specs.declared.levels.Joined.{Joined}
-use Rattle.glue.specs.declared.levels.Level.{Level}
-use Rattle.glue.specs.declared.levels.Level.TheVariants.{Fails, Ends, Next}
 use Rattle.glue.specs.Rows.{RowsFit}
-use Rattle.glue.specs.Levels.{next_of, follows, Leads, Marked, marked, joined_of, onward}
+use Rattle.glue.specs.Levels.{Level, next_of, follows, Leads, Marked, marked, joined_of, onward}
 
 -- ------------------------------------------------------------------ one step of the definition
 glue_same : (n : ℕ) (T : Table) (x y : ℕ) → 0 < n → x ≡ y → glue n T x y ≡ some (record { rows = T; to = λ i. i })
@@ -40,7 +40,7 @@ glue_other (suc n) T x y u v l k lt ne ex ey =
     go (no np) = rw (ex, ey) refl
 
 link_follows : (rec : Table → ℕ → ℕ → Option Glued) (T : Table) (x y : ℕ) (u v : Option ℕ)
-    → glue_link rec T x y u v ≡ follows rec (moved x y) (next_of (moved x y) u v) T
+    → glue_link rec T x y u v ≡ follows rec (moved x y) (Some (next_of (moved x y) u v)) T
 link_follows rec T x y none v = refl
 link_follows rec T x y (some p) none = refl
 link_follows rec T x y (some p) (some q) = refl
@@ -81,14 +81,14 @@ module _ (from n : ℕ) (P L : List ℕ) (x y : ℕ) (ne : x ≢ y) (safe : Safe
   step = glue_other n T x y U W l k (omega (arith, xn)) ne row_x_lem row_y_lem
 
   -- two different labels
-  pub level_fails : none ≡ meet l k → (T' : Table) → Leads from n x y T Fails T'
+  pub level_fails : none ≡ meet l k → (T' : Table) → Leads from n x y T None T'
   level_fails em T' = record { whole = step ∙ ap (glue_lab (glue (n - 1)) T x y U W) (sym em); next = λ p q e. never cc }
 
-  pub level_next : (m w : ℕ) → some (lab_of m) ≡ meet l k → parent_of w ≡ or_else U W → (T' : Table) → T' ≡ merged T x y (parent_of w) (lab_of m) → (r : Level)
-      → r ≡ next_of (moved x y) U W → Leads from n x y T r T'
+  pub level_next : (m w : ℕ) → some (lab_of m) ≡ meet l k → parent_of w ≡ or_else U W → (T' : Table) → T' ≡ merged T x y (parent_of w) (lab_of m) → (r : code.Option (ℕ × ℕ))
+      → r ≡ next_of (moved x y) U W → Leads from n x y T (Some r) T'
   level_next m w em ew T' et r er = record {
     whole = step ∙ ap (glue_lab (glue (n - 1)) T x y U W) (sym em) ∙ link_follows (glue (n - 1)) M x y U W ∙ rw (er, into) refl;
-    next = λ p q e. go U W refl refl p q (sym er ∙ e);
+    next = λ p q e. go U W refl refl p q (let z : r ≡ Some (p, q) = cc in sym er ∙ z);
   }
     where
       M : Table
@@ -97,12 +97,13 @@ module _ (from n : ℕ) (P L : List ℕ) (x y : ℕ) (ne : x ≢ y) (safe : Safe
       into : T' ≡ M
       into = et ∙ ap (λ z. merged T x y z (lab_of m)) ew
 
-      go : (u v : Option ℕ) → U ≡ u → W ≡ v → (p q : ℕ) → next_of (moved x y) u v ≡ Next p q → Safe from T' p q
+      go : (u v : Option ℕ) → U ≡ u → W ≡ v → (p q : ℕ) → next_of (moved x y) u v ≡ Some (p, q) → Safe from T' p q
       go none v eu ev p q e = never cc
       go (some a) none eu ev p q e = never cc
       go (some a) (some b) eu ev p q e =
-          let ep : moved x y a ≡ p = cc in
-          let eq : moved x y b ≡ q = cc in
+          let pair : (moved x y a, moved x y b) ≡ (p, q) = cc in
+          let ep : moved x y a ≡ p = ap (λ (z : ℕ × ℕ). z.0) pair in
+          let eq : moved x y b ≡ q = ap (λ (z : ℕ × ℕ). z.1) pair in
           let ex = row_x_lem ∙ ap (λ z. some (node z l)) eu in
           let ey = row_y_lem ∙ ap (λ z. some (node z k)) ev in
           rw (← ep, ← eq, into, eu) (safe_next from (lab_of m) (record { row_x = ex; row_y = ey; differ = ne }) (sym em) safe)
@@ -145,10 +146,8 @@ module _ (P₀ L₀ : List ℕ) (from : ℕ) (t : Joined) (a b : ℕ) where
     )
 
     -- both are the same row
-    pub climb_same : x ≡ y → joined_of r P L ≡ All
-    climb_same q =
-        rows_some r.rows _ (λ z. omega (arith, climb_row))
-        ∙ sym (c.whole ∙ ap (λ o. marked o r.s r.d r.d2) (glue_same r.rows (table r.rows P L) x y (omega (arith, climb_row)) q))
+    pub climb_same : x ≡ y → joined_of (Some r) P L ≡ All
+    climb_same q = sym (c.whole ∙ ap (λ o. marked o r.s r.d r.d2) (glue_same r.rows (table r.rows P L) x y (omega (arith, climb_row)) q))
 
     module _ (P' L' : List ℕ) (lv : Level) (g : Leads from r.rows x y (table r.rows P L) lv (table (r.rows - 1) P' L')) where
       abbrev r' : Joined
@@ -159,7 +158,7 @@ module _ (P₀ L₀ : List ℕ) (from : ℕ) (t : Joined) (a b : ℕ) where
           ∙ ap (λ z. marked (follows (glue (r.rows - 1)) (moved x y) z (table (r.rows - 1) P' L')) r.s r.d r.d2) e
 
       -- the parents are next
-      pub climb_next : (p q : ℕ) → lv ≡ Next p q → length P' ≡ length P → length L' ≡ length L → Climb P' L' r' p q
+      pub climb_next : (p q : ℕ) → lv ≡ Some (Some (p, q)) → length P' ≡ length P → length L' ≡ length L → Climb P' L' r' p q
       climb_next p q e lp ll = record {
         len_p = lp ∙ c.len_p;
         len_l = ll ∙ c.len_l;
@@ -169,8 +168,8 @@ module _ (P₀ L₀ : List ℕ) (from : ℕ) (t : Joined) (a b : ℕ) where
       }
 
       -- or none are
-      pub climb_ends : x ≢ y → lv ≡ Ends → joined_of r' P' L' ≡ All
-      climb_ends ne e = rows_some (r.rows - 1) _ (λ z. let w = live_below r.rows P L y c.safe.live_y in ne (omega (arith, climb_row))) ∙ sym (at_level e)
+      pub climb_ends : lv ≡ Some None → joined_of (Some r') P' L' ≡ All
+      climb_ends e = sym (at_level e)
 
-      pub climb_fails : lv ≡ Fails → none ≡ All
+      pub climb_fails : lv ≡ None → none ≡ All
       climb_fails e = sym (at_level e)

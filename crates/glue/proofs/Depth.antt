@@ -1,6 +1,5 @@
 -- Depths: the loop has gone up k edges from row x and stands at row i.
 use mathlib.Core.Path.{◌≡◌, sym, ap, subst, ◌∙◌}
-use mathlib.Core.Logic.{◌≢◌}
 use mathlib.Core.Option.{Option, none, some}
 use mathlib.Core.List.{List}
 use Prim.Native.Nat.{ℕ, zero, suc, ◌+◌, ◌-◌, ◌<◌}
@@ -8,9 +7,9 @@ use native.Mathlib.Omega.{arith}
 use lib.ListN.{get_or}
 use Rattle.meaning.specs.TreeQuery.{Lab, node, Table, at}
 use Rattle.meaning.specs.Gluing.{depth, depth_row}
-use Rattle.rows.specs.Rows.{lab_of, no_row}
+use Rattle.rows.specs.Rows.{lab_of}
 use Rattle.rows.specs.Table.{parent_of, row_at, table}
-use Rattle.rows.proofs.Table.{parent_none, parent_some, at_table}
+use Rattle.rows.proofs.Table.{at_table}
 
 depth_row_lem : (m : ℕ) (T : Table) (i : ℕ) (u : Option ℕ) (l : Lab) → 0 < m → at T i ≡ some (node u l)
     → depth m T i ≡ depth_row (depth (m - 1) T) (some (node u l))
@@ -32,17 +31,16 @@ module _ (n : ℕ) (P L : List ℕ) (x i k : ℕ) (inv : depth n (table n P L) x
     opened u e = step ∙ ap (λ z. depth_row (depth (n - k - 1) (table n P L)) (some (node z (lab_of (get_or L i 0))))) e
 
     -- at the top
-    pub depth_top : get_or P i 0 ≡ no_row → k ≡ depth n (table n P L) x
-    depth_top e = let a = opened none (parent_none (get_or P i 0) e) in sym (inv ∙ ap (λ z. k + z) a ∙ (let z : k + 0 ≡ k = omega arith in z))
+    pub depth_top : none ≡ parent_of (get_or P i 0) → k ≡ depth n (table n P L) x
+    depth_top e = let a = opened none (sym e) in sym (inv ∙ ap (λ z. k + z) a ∙ (let z : k + 0 ≡ k = omega arith in z))
 
     -- one edge more
-    pub depth_up : (p : ℕ) → p ≡ get_or P i 0 → get_or P i 0 ≢ no_row → depth n (table n P L) x ≡ k + 1 + depth (n - (k + 1)) (table n P L) p
-    depth_up p ep ne =
-        let a : depth (n - k) (table n P L) i ≡ suc (depth (n - k - 1) (table n P L) (get_or P i 0)) = opened (some (get_or P i 0)) (parent_some (get_or P i 0) ne) in
-        let b : depth (n - k - 1) (table n P L) (get_or P i 0) ≡ depth (n - (k + 1)) (table n P L) p =
-        rw (ep, (let q : n - k - 1 ≡ n - (k + 1) = omega arith in q)) in
+    pub depth_up : (p : ℕ) → some p ≡ parent_of (get_or P i 0) → depth n (table n P L) x ≡ k + 1 + depth (n - (k + 1)) (table n P L) p
+    depth_up p e =
+        let a : depth (n - k) (table n P L) i ≡ suc (depth (n - k - 1) (table n P L) p) = opened (some p) (sym e) in
+        let b = ap (λ z. depth z (table n P L) p) (let q : n - k - 1 ≡ n - (k + 1) = omega arith in q) in
         omega (arith, a, b)
 
-  pub depth_out : k ≡ n → k ≡ depth n (table n P L) x
+  pub depth_out : k ≡ n → n ≡ depth n (table n P L) x
   depth_out e =
-      sym (inv ∙ ap (λ z. k + depth z (table n P L) i) (let q : n - k ≡ 0 = omega arith in q) ∙ (let z : k + 0 ≡ k = omega arith in z))
+      sym e ∙ sym (inv ∙ ap (λ z. k + depth z (table n P L) i) (let q : n - k ≡ 0 = omega arith in q) ∙ (let z : k + 0 ≡ k = omega arith in z))

@@ -1,12 +1,9 @@
 -- The rows of a table as two lists of numbers, parents and label codes, while one row is taken out or the links of some rows change.
-use Rattle.std.specs.Prelude.{◌≡◌, List, ℕ, ◌+◌, ◌≤◌, ◌<◌, length, get_or}
+use Rattle.std.specs.Prelude as code
+use Rattle.std.specs.Prelude.{◌≡◌, List, ℕ, ◌+◌, ◌≤◌, ◌<◌, length, get_or, Some, None}
 use Rattle.std.proofs.Math.Option.{Option, none, some}
 use Rattle.meaning.specs.Basics.{mapped}
-use Rattle.meaning.specs.TreeQuery.{Lab}
-use Rattle.rows.specs.Rows.{lab_of}
 use Rattle.rows.specs.Table.{parent_of}
-use Rattle.glue.specs.declared.merging.Met.{Met}
-use Rattle.glue.specs.declared.merging.Met.TheVariants.{Label, Clash}
 
 -- r is the link p, each row i of which is now f i
 abbrev pub Relinked : (ℕ → ℕ) → ℕ → ℕ → Type 0
@@ -29,7 +26,7 @@ pub record RowsFit (n : ℕ) (P L : List ℕ) : Type 0 where
   pub parents : n ≤ length P
   pub labels : n ≤ length L
 
--- what two labels make
-abbrev pub met_of : Met → Option Lab
-met_of Clash = none
-met_of (Label m) = some (lab_of m)
+-- what the code may answer, as the definitions have it
+abbrev pub given : {A B : Type 0} → (A → B) → code.Option A → Option B
+given f None = none
+given f (Some a) = some (f a)

@@ -4,12 +4,11 @@ ghost use Rattle.meaning.specs.Gluing.{glue, moved};
 ghost use Rattle.theory.proofs.Apart.{Safe};
 ghost use Rattle.rows.specs.Table.{parent_of, table};
 ghost use Rattle.glue.specs.Rows.{RowsFit};
-ghost use Rattle.glue.specs.Levels.{next_of, Leads, marked, joined_of, onward, nowhere};
+ghost use Rattle.glue.specs.Levels.{next_of, Leads, marked, joined_of, onward};
 
-use crate::merging::{Met, meet_labels, merge_rows, or_else, renumber};
-use rows::{NO_ROW, wide};
+use crate::merging::{meet_labels, merge_rows, or_else, renumber, row_above};
 
-// A table with three of its nodes; no rows: gluing failed.
+// A table with three of its nodes.
 #[derive(Clone, Copy)]
 pub struct Joined {
     pub rows: usize,
@@ -18,42 +17,17 @@ pub struct Joined {
     pub d2: usize,
 }
 
-fn failed() -> Joined
-    ensures { result ≡ nowhere }
-{
-    Joined {
-        rows: 0,
-        s: 0,
-        d: 0,
-        d2: 0,
-    }
-}
-
-// What the gluing of two rows leads to: it fails, or it is done, since one of the two has no parent, or their parents are next.
-#[derive(Drop)]
-enum Level {
-    Fails,
-    Ends,
-    Next { x: usize, y: usize },
-}
-
-// The parents u and v of two rows that became one, once y is out and x stands for it.
-fn next_level(x: usize, y: usize, u: u16, v: u16) -> Level
+// The parents u and v of two rows that became one, once y is out and x stands for it; none where one of the two has no parent.
+fn next_level(x: usize, y: usize, u: u16, v: u16) -> Option<(usize, usize)>
     ensures { result ≡ next_of (moved x y) (parent_of u) (parent_of v) }
 {
-    if u == NO_ROW {
-        return Level::Ends;
-    }
-    if v == NO_ROW {
-        return Level::Ends;
-    }
-    Level::Next {
-        x: renumber(x, y, wide(u)),
-        y: renumber(x, y, wide(v)),
-    }
+    let p = row_above(u)?;
+    let q = row_above(v)?;
+    Some((renumber(x, y, p), renumber(x, y, q)))
 }
 
-// Row y of the n rows goes into row x. No row below `from` is taken out.
+// Row y of the n rows goes into row x, unless their labels clash; then the parents of the two are next, if both have one. No row below `from` is taken
+// out.
 fn glue_level(
     parent: &mut [u16],
     label: &mut [u32],
@@ -61,18 +35,16 @@ fn glue_level(
     n: usize,
     x: usize,
     y: usize,
-) -> Level
+) -> Option<Option<(usize, usize)>>
     requires { RowsFit n parent.old label.old × (x < n) × (y < n) × (x ≡ y → ⊥) × Safe from (table n parent.old label.old) x y }
     ensures { Leads from n x y (table n parent.old label.old) result
         (table (n - 1) parent.new label.new) }
 {
     let u = parent[x];
     let v = parent[y];
-    let Met::Label(m) = meet_labels(label[x], label[y]) else {
-        return Level::Fails;
-    };
+    let m = meet_labels(label[x], label[y])?;
     merge_rows(parent, label, from, n, x, y, or_else(u, v), m);
-    next_level(x, y, u, v)
+    Some(next_level(x, y, u, v))
 }
 
 // One row less, and where the three nodes are then.
@@ -88,7 +60,7 @@ fn renumbered(t: Joined, x: usize, y: usize) -> Joined
     }
 }
 
-// Glues row b to row a and their parents, until one has no parent or both are the same row.
+// Glues row b to row a and their parents, until one has no parent or both are the same row; two labels that clash give none.
 pub fn glue_rows(
     parent: &mut [u16],
     label: &mut [u32],
@@ -96,7 +68,7 @@ pub fn glue_rows(
     t: Joined,
     a: usize,
     b: usize,
-) -> Joined
+) -> Option<Joined>
     requires { RowsFit t.rows parent.old label.old × Safe from (table t.rows parent.old label.old) a b }
     ensures { let T = table t.rows parent.old label.old in
         joined_of result parent.new label.new ≡ marked (glue t.rows T a b) t.s t.d t.d2 }
@@ -106,16 +78,13 @@ pub fn glue_rows(
     let mut y = b;
     while x != y {
         let n = r.rows;
-        let level = glue_level(parent, label, from, n, x, y);
+        let next = glue_level(parent, label, from, n, x, y)?;
         r = renumbered(r, x, y);
-        match level {
-            Level::Next { x: p, y: q } => {
-                x = p;
-                y = q;
-            }
-            Level::Ends => return r,
-            Level::Fails => return failed(),
-        }
+        let Some((p, q)) = next else {
+            return Some(r);
+        };
+        x = p;
+        y = q;
     }
-    r
+    Some(r)
 }

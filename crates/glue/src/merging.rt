@@ -4,16 +4,9 @@ ghost use Rattle.std.proofs.Math.Option.{some};
 ghost use Rattle.meaning.specs.Gluing.{meet, move, moved, merged, or_else};
 ghost use Rattle.rows.specs.Rows.{lab_of, no_row};
 ghost use Rattle.rows.specs.Table.{parent_of, table};
-ghost use Rattle.glue.specs.Rows.{pool_rows, met_of, Relinked, Swept};
+ghost use Rattle.glue.specs.Rows.{pool_rows, given, Relinked, Swept};
 
-use rows::NO_ROW;
-
-// What two labels glued together are.
-#[derive(Clone, Copy)]
-pub enum Met {
-    Label(u32),
-    Clash,
-}
+use rows::{NO_ROW, wide};
 
 // x stands for y.
 fn stand_in(x: usize, y: usize, i: usize) -> usize
@@ -56,20 +49,30 @@ fn relinked(x: u16, y: u16, p: u16) -> u16
     p
 }
 
-// "Wildcard glued to a label is that label"; two different labels clash.
-pub fn meet_labels(l: u32, k: u32) -> Met
-    ensures { met_of result ≡ meet (lab_of l) (lab_of k) }
+// "Wildcard glued to a label is that label"; two different labels clash, and give none.
+pub fn meet_labels(l: u32, k: u32) -> Option<u32>
+    ensures { given lab_of result ≡ meet (lab_of l) (lab_of k) }
 {
     if l == 0 {
-        return Met::Label(k);
+        return Some(k);
     }
     if k == 0 {
-        return Met::Label(l);
+        return Some(l);
     }
     if l == k {
-        return Met::Label(l);
+        return Some(l);
     }
-    Met::Clash
+    None
+}
+
+// The row that a link leads to: the top's leads to none.
+pub fn row_above(p: u16) -> Option<usize>
+    ensures { given (λ i. i) result ≡ parent_of p }
+{
+    if p == NO_ROW {
+        return None;
+    }
+    Some(wide(p))
 }
 
 // The parent of whichever has one.

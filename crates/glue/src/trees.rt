@@ -7,18 +7,30 @@ ghost use Rattle.meaning.specs.Gluing.{join, across, depth, two};
 ghost use Rattle.theory.proofs.Plain.{TreeO};
 ghost use Rattle.rows.specs.Table.{parent_of, table};
 ghost use Rattle.glue.specs.Rows.{pool_rows, Relinked, RowsFit};
-ghost use Rattle.glue.specs.Levels.{marked, joined_of};
-ghost use Rattle.glue.specs.Trees.{query_from, built_of, built_from, chosen, InTree, within_of};
+ghost use Rattle.glue.specs.Levels.{marked, marked_at, joined_of};
+ghost use Rattle.glue.specs.Trees.{query_from, kept, rows_in, built_of, built_from, chosen, InTree, within_of};
 
 use crate::levels::{Joined, glue_rows};
-use rows::{NO_ROW, wide};
+use crate::merging::row_above;
+use rows::NO_ROW;
 
-// A tree query that was built: its number of rows and its two marks; no rows: empty.
+// A tree query that was built: its number of rows and its two marks. What may be empty is an `Option` of it.
 #[derive(Clone, Copy)]
 pub struct Built {
     pub rows: usize,
     pub s: usize,
     pub d: usize,
+}
+
+// What a table keeps of a query that may be empty: of empty no rows, and marks that do not matter.
+pub fn kept(built: Option<Built>) -> Built
+    ensures { result ≡ kept built }
+{
+    built.unwrap_or(Built {
+        rows: 0,
+        s: 0,
+        d: 0,
+    })
 }
 
 // A link that counts from the first row of the other table.
@@ -60,7 +72,13 @@ fn meeting(p: Built, both: bool) -> usize
 }
 
 // The query p in the first rows and the query q in the rows behind them: their first gluing, and where p's s and d and q's d are then.
-fn glue_across(parent: &mut [u16], label: &mut [u32], p: Built, q: Built, both: bool) -> Joined
+fn glue_across(
+    parent: &mut [u16],
+    label: &mut [u32],
+    p: Built,
+    q: Built,
+    both: bool,
+) -> Option<Joined>
     requires rows_fit { RowsFit (p.rows + q.rows) parent.old label.old }
     requires tree_queries { TreeQuery (query_from 0 p parent.old label.old) × TreeQuery (query_from p.rows q parent.old label.old) }
     ensures { let A = table p.rows parent.old label.old in
@@ -85,70 +103,58 @@ fn depth_of(parent: &[u16], n: usize, x: usize) -> usize
     ensures { (L : List ℕ) → result ≡ depth n (table n parent.now L) x }
 {
     let mut i = x;
-    let mut k: usize = 0;
-    while k < n {
-        let p = parent[i];
-        if p == NO_ROW {
+    for k in 0..n {
+        let Some(p) = row_above(parent[i]) else {
             return k;
-        }
-        i = wide(p);
-        k += 1;
+        };
+        i = p;
     }
-    k
+    n
 }
 
-// Glues node d2 to node d inside one tree; empty "when the two lie at different depths". The marks are s and d.
-fn glue_within(parent: &mut [u16], label: &mut [u32], t: Joined) -> Built
-    requires { RowsFit t.rows parent.old label.old × InTree (joined_of t parent.old label.old) }
-    ensures { built_of result parent.new label.new ≡ within_of (joined_of t parent.old label.old) }
+// Glues node d2 to node d inside one tree; none, which is empty, "when the two lie at different depths". The marks are s and d.
+fn glue_within(parent: &mut [u16], label: &mut [u32], t: Joined) -> Option<Built>
+    requires { RowsFit t.rows parent.old label.old × InTree (marked_at t parent.old label.old) }
+    ensures { built_of result parent.new label.new ≡ within_of (marked_at t parent.old label.old) }
 {
     let n = t.rows;
-    if n == 0 {
-        return Built {
-            rows: 0,
-            s: 0,
-            d: 0,
-        };
-    }
     let x = t.d;
     let y = t.d2;
     let a = depth_of(parent, n, x);
     let b = depth_of(parent, n, y);
     if a != b {
-        return Built {
-            rows: 0,
-            s: 0,
-            d: 0,
-        };
+        return None;
     }
-    let r = glue_rows(parent, label, 0, t, x, y);
-    Built {
+    let r = glue_rows(parent, label, 0, t, x, y)?;
+    Some(Built {
         rows: r.rows,
         s: r.s,
         d: r.d,
-    }
+    })
 }
 
 // Composition, or intersection, which "glues s to s, then d to d in that result". "Empty in any operand gives empty."
-pub fn glue_two(parent: &mut [u16], label: &mut [u32], p: Built, q: Built, both: bool) -> Built
-    requires rows_fit { RowsFit (p.rows + q.rows) parent.old label.old }
-    requires trees { TreeO (built_of p parent.old label.old) × TreeO (built_from p.rows q parent.old label.old) }
+pub fn glue_two(
+    parent: &mut [u16],
+    label: &mut [u32],
+    p: Option<Built>,
+    q: Option<Built>,
+    both: bool,
+) -> Option<Built>
+    requires rows_fit { RowsFit (rows_in p + rows_in q) parent.old label.old }
+    requires trees { TreeO (built_of p parent.old label.old) × TreeO (built_from (rows_in p) q parent.old label.old) }
     ensures { built_of result parent.new label.new ≡ two (chosen both)
-        (built_of p parent.old label.old) (built_from p.rows q parent.old label.old) }
+        (built_of p parent.old label.old) (built_from (rows_in p) q parent.old label.old) }
 {
-    if p.rows == 0 {
-        return p;
-    }
-    if q.rows == 0 {
-        return q;
-    }
-    let t = glue_across(parent, label, p, q, both);
+    let p = p?;
+    let q = q?;
+    let t = glue_across(parent, label, p, q, both)?;
     if both {
         return glue_within(parent, label, t);
     }
-    Built {
+    Some(Built {
         rows: t.rows,
         s: t.s,
         d: t.d2,
-    }
+    })
 }

@@ -1,4 +1,6 @@
 -- A new operand: a top and a child of it are written, and as many of the two as the sign has are the operand.
+use Rattle.std.specs.Prelude as code
+use Rattle.std.specs.Prelude.{Some, None}
 use mathlib.Core.Path.{◌≡◌, refl, sym, ap, ◌∙◌}
 use mathlib.Core.Logic.{◌≢◌}
 use mathlib.Core.Option.{Option, none, some}
@@ -14,10 +16,10 @@ use Rattle.meaning.specs.TreeQuery.{any, node, Query}
 use Rattle.meaning.specs.Gluing.{both_at_s, both_at_d, exchanged, plain}
 use Rattle.meaning.specs.Word.{operand, unary, sign_of}
 use Rattle.rows.specs.Rows.{lab_of, no_row}
-use Rattle.rows.specs.Table.{row_at, table, if_rows}
+use Rattle.rows.specs.Table.{row_at, table}
 use Rattle.rows.proofs.Table.{parent_none, parent_some}
 use Rattle.glue.specs.declared.trees.Built.{Built}
-use Rattle.glue.specs.Trees.{query_from, built_from}
+use Rattle.glue.specs.Trees.{rows_in, built_from}
 use Rattle.pool.specs.declared.operand.Latest.{Latest}
 use Rattle.pool.specs.Pool.{Pool, built, operand_at}
 use Rattle.pool.specs.Latest.{latest_at, topped, Made}
@@ -59,55 +61,56 @@ module _ (P L : List ℕ) (u v c : ℕ) (ev : v ≡ u + 1) (lp : v < length P) (
   rows_laid (suc (suc zero)) le = rw (row_top, row_kid) refl
   rows_laid (suc (suc (suc n))) le = absurd (omega arith)
 
-  pub laid_made : (k : ℕ) (l : Latest) → l.at ≡ k → l.rows ≤ 2 → (e : Expr) → topped c l ≡ plain e → Made k u P L l P₂ L₂ (plain e)
-  laid_made k l el few e q = record {
-    place = el;
-    whole = ap (λ T. if_rows l.rows (record { rows = T; s = l.s; d = l.d })) (rows_laid l.rows few) ∙ q;
-    parents = stays P no_row;
-    labels = stays L c;
-  }
+  pub laid_made : (k : ℕ) (l : Latest) → l.at ≡ k → rows_in l.built ≤ 2 → (e : Expr) → topped c l.built ≡ plain e → Made k u P L l P₂ L₂ (plain e)
+  laid_made k l el few e q = record { place = el; whole = go l.built few ∙ q; parents = stays P no_row; labels = stays L c }
+    where
+      go : (o : code.Option Built) → rows_in o ≤ 2 → built_from u o P₂ L₂ ≡ topped c o
+      go None le = refl
+      go (Some r) le = ap (λ T. some (record { rows = T; s = r.s; d = r.d })) (rows_laid r.rows le)
 
 -- ------------------------------------------------------------------ rows and marks by the sign
-module _ (v k : ℕ) where
-  shape_is : (n s d : ℕ) → topped (v - 8) (record { at = k; rows = n; s = s; d = d }) ≡ new_query v
-      → (e : Expr) → sign_of v ≡ operand e → topped (v - 8) (record { at = k; rows = n; s = s; d = d }) ≡ plain e
-  shape_is n s d h e q = h ∙ sym (operand_means v q).1
+-- what is built of an operand sign v
+abbrev Shape : ℕ → code.Option Built → Type 0
+Shape v o = (e : Expr) → sign_of v ≡ operand e → topped (v - 8) o ≡ plain e
 
-  pub shape_empty : v ≡ 0 → (e : Expr) → sign_of v ≡ operand e → topped (v - 8) (record { at = k; rows = 0; s = 0; d = 0 }) ≡ plain e
-  shape_empty z = shape_is 0 0 0 (rw z refl)
+module _ (v : ℕ) where
+  shape_is : (o : code.Option Built) → topped (v - 8) o ≡ new_query v → Shape v o
+  shape_is o h e q = h ∙ sym (operand_means v q).1
 
-  pub shape_child : v ≡ 2 → (e : Expr) → sign_of v ≡ operand e → topped (v - 8) (record { at = k; rows = 2; s = 0; d = 1 }) ≡ plain e
-  shape_child z = shape_is 2 0 1 (rw z refl)
+  pub shape_empty : v ≡ 0 → Shape v None
+  shape_empty z = shape_is None (rw z refl)
 
-  pub shape_parent : v ≡ 3 → (e : Expr) → sign_of v ≡ operand e → topped (v - 8) (record { at = k; rows = 2; s = 1; d = 0 }) ≡ plain e
-  shape_parent z = shape_is 2 1 0 (rw z refl)
+  pub shape_child : v ≡ 2 → Shape v (Some (record { rows = 2; s = 0; d = 1 }))
+  shape_child z = shape_is (Some (record { rows = 2; s = 0; d = 1 })) (rw z refl)
 
-  pub shape_node : v ≢ 0 → v ≢ 2 → v ≢ 3 → (e : Expr) → sign_of v ≡ operand e → topped (v - 8) (record { at = k; rows = 1; s = 0; d = 0 }) ≡ plain e
-  shape_node a b c = shape_is 1 0 0 (rw (ne_eqb v 0 a, ne_eqb v 2 b, ne_eqb v 3 c) refl)
+  pub shape_parent : v ≡ 3 → Shape v (Some (record { rows = 2; s = 1; d = 0 }))
+  shape_parent z = shape_is (Some (record { rows = 2; s = 1; d = 0 })) (rw z refl)
+
+  pub shape_node : v ≢ 0 → v ≢ 2 → v ≢ 3 → Shape v (Some (record { rows = 1; s = 0; d = 0 }))
+  shape_node a b c = shape_is (Some (record { rows = 1; s = 0; d = 0 })) (rw (ne_eqb v 0 a, ne_eqb v 2 b, ne_eqb v 3 c) refl)
 
 -- ------------------------------------------------------------------ marks that move
-map_rows : (f : Query → Query) (n : ℕ) (Q : Query) → if_rows n (f Q) ≡ mapped f (if_rows n Q)
-map_rows f zero Q = refl
-map_rows f (suc n) Q = refl
+-- o is what the sign v makes of the operand q
+abbrev Moves : ℕ → code.Option Built → code.Option Built → Type 0
+Moves v q o = (f : Expr → Expr) (e : Expr) (a : ℕ) (P L : List ℕ) → sign_of v ≡ unary f → built_from a q P L ≡ plain e → built_from a o P L ≡ plain (f e)
 
--- the operand q with the marks s and d is what the sign v makes of it
-abbrev Moves : ℕ → ℕ → Built → ℕ → ℕ → Type 0
-Moves v k q s d = (f : Expr → Expr) (e : Expr) (a : ℕ) (P L : List ℕ) → sign_of v ≡ unary f → built_from a q P L ≡ plain e
-    → latest_at a (record { at = k; rows = q.rows; s = s; d = d }) P L ≡ plain (f e)
+module _ (v : ℕ) where
+  moves : (g : Query → Query) → moving v ≡ g → (q : code.Option Built) (f : Expr → Expr) (e : Expr) (a : ℕ) (P L : List ℕ) → sign_of v ≡ unary f
+      → built_from a q P L ≡ plain e → mapped g (built_from a q P L) ≡ plain (f e)
+  moves g h q f e a P L u b = ap (mapped g) b ∙ sym ((unary_means v u e).1 ∙ ap (λ m. mapped m (plain e)) h)
 
-module _ (v k : ℕ) (q : Built) where
-  moves : (g : Query → Query) → moving v ≡ g → (f : Expr → Expr) (e : Expr) (a : ℕ) (P L : List ℕ) → sign_of v ≡ unary f → built_from a q P L ≡ plain e
-      → if_rows q.rows (g (query_from a q P L)) ≡ plain (f e)
-  moves g h f e a P L u b = map_rows g q.rows (query_from a q P L) ∙ ap (mapped g) b ∙ sym ((unary_means v u e).1 ∙ ap (λ m. mapped m (plain e)) h)
+  pub moved_none : Moves v None None
+  moved_none = moves (moving v) refl None
 
-  pub moved_first : v ≡ 5 → Moves v k q q.s q.s
-  moved_first z = moves both_at_s (rw z refl)
+  module _ (q : Built) where
+    pub moved_first : v ≡ 5 → Moves v (Some q) (Some (record { rows = q.rows; s = q.s; d = q.s }))
+    moved_first z = moves both_at_s (rw z refl) (Some q)
 
-  pub moved_second : v ≡ 6 → Moves v k q q.d q.d
-  moved_second z = moves both_at_d (rw z refl)
+    pub moved_second : v ≡ 6 → Moves v (Some q) (Some (record { rows = q.rows; s = q.d; d = q.d }))
+    moved_second z = moves both_at_d (rw z refl) (Some q)
 
-  pub moved_both : v ≢ 5 → v ≢ 6 → Moves v k q q.d q.s
-  moved_both a b = moves exchanged (rw (ne_eqb v 5 a, ne_eqb v 6 b) refl)
+    pub moved_both : v ≢ 5 → v ≢ 6 → Moves v (Some q) (Some (record { rows = q.rows; s = q.d; d = q.s }))
+    moved_both a b = moves exchanged (rw (ne_eqb v 5 a, ne_eqb v 6 b) refl) (Some q)
 
 -- the latest operand
 pub turn_asks : (F S D : List ℕ) (n : ℕ) → (1 ≤ n) × (n < length F) × (n ≤ length S) × (n ≤ length D) × (get_or F (n - 1) 0 ≤ get_or F n 0)
@@ -117,7 +120,7 @@ turn_asks F S D n (pos, f, s, d, up) =
     let w = ap (λ k. get_or F k 0) z in
     (omega arith, omega arith, omega arith, omega arith)
 
-pub turn_made : (p : Pool) (n : ℕ) (q : Built) → q ≡ built p (n - 1) → (l : Latest) → l.at ≡ n - 1 → (o o' : Option Query)
+pub turn_made : (p : Pool) (n : ℕ) (q : code.Option Built) → q ≡ built p (n - 1) → (l : Latest) → l.at ≡ n - 1 → (o o' : Option Query)
     → ((a : ℕ) → built_from a q p.parent p.label ≡ o → latest_at a l p.parent p.label ≡ o') → operand_at p (n - 1) ≡ o
     → Made (n - 1) (get_or p.first (n - 1) 0) p.parent p.label l p.parent p.label o'
 unfolding operand_at

@@ -1,5 +1,8 @@
 -- The operands of the pool: those below the latest stay, and the latest is put in its place. Every sign is such a step.
+use Rattle.std.specs.Prelude as code
+use Rattle.std.specs.Prelude.{Some, None}
 use mathlib.Core.Path.{◌≡◌, refl, sym, ap, subst, ◌∙◌}
+use mathlib.Core.Logic.{◌≢◌}
 use mathlib.Core.Option.{Option}
 use mathlib.Core.List.{List, [], ◌∷◌, map}
 use Prim.Native.Nat.{ℕ, zero, suc, ◌+◌, ◌-◌, ◌%◌, ◌≤◌, ◌<◌}
@@ -14,15 +17,34 @@ use Rattle.meaning.specs.TreeQuery.{Query}
 use Rattle.meaning.specs.Gluing.{plain}
 use Rattle.theory.proofs.Look.{never}
 use Rattle.theory.proofs.Plain.{TreeO, AtMost, plain_means, means_tree, few_nodes}
-use Rattle.rows.specs.Table.{table, if_rows}
-use Rattle.rows.proofs.Table.{length_table, at_table, table_is, live_below}
+use Rattle.rows.specs.Table.{table, if_rows, query}
+use Rattle.rows.proofs.Table.{length_table, at_table, table_is, live_below, rows_some}
 use Rattle.glue.specs.declared.trees.Built.{Built}
 use Rattle.glue.specs.Rows.{pool_rows}
-use Rattle.glue.specs.Trees.{built_from}
+use Rattle.glue.specs.Trees.{kept, rows_in, built_from}
 use Rattle.pool.specs.declared.operand.Latest.{Latest}
 use Rattle.theory.proofs.Accepted.{all_steps}
-use Rattle.pool.specs.Pool.{Pool, pool, built, operand_at, stack, InOrder, Trees}
-use Rattle.pool.specs.Latest.{latest_at, Made}
+use Rattle.pool.specs.Pool.{Pool, pool, stored, built, operand_at, stack, InOrder, Trees}
+use Rattle.pool.specs.Latest.{Made}
+
+-- ------------------------------------------------------------------ rows and marks as they are stored
+pub rows_stored : (p : Pool) (k : ℕ) → rows_in (built p k) ≡ get_or p.first (k + 1) 0 - get_or p.first k 0
+rows_stored p k = go (get_or p.first (k + 1) 0 - get_or p.first k 0)
+  where
+    go : (n : ℕ) → rows_in (stored n (get_or p.s k 0) (get_or p.d k 0)) ≡ n
+    go zero = refl
+    go (suc n) = refl
+
+pub stored_none : (n s d : ℕ) → n ≡ 0 → None ≡ stored n s d
+stored_none n s d e = rw e refl
+
+pub stored_some : (n s d : ℕ) → n ≢ 0 → Some (record { rows = n; s = s; d = d }) ≡ stored n s d
+stored_some zero s d ne = absurd (ne refl)
+stored_some (suc n) s d ne = refl
+
+stored_as : (a n s d : ℕ) (P L : List ℕ) → built_from a (stored n s d) P L ≡ if_rows n (query n (drop a P) (drop a L) s d)
+stored_as a zero s d P L = refl
+stored_as a (suc n) s d P L = refl
 
 -- ------------------------------------------------------------------ the stack of operands
 pub stack_top : (p : Pool) (n : ℕ) → 1 ≤ n → stack p n ≡ operand_at p (n - 1) ∷ stack p (n - 1)
@@ -52,12 +74,12 @@ trees_of p (suc n) (x ∷ es) e k lt = go (trees_of p n es (cc)) (ℕ_discrete k
     go f (no nq) = f k (omega arith)
 
 -- ------------------------------------------------------------------ the rows in use
-pub rows_most : (a : ℕ) (r : Built) (P L : List ℕ) (e : Expr) → built_from a r P L ≡ plain e → r.rows ≤ suc (steps e)
-rows_most a r P L e q = go r.rows (subst (AtMost (suc (steps e))) (sym q) (few_nodes e))
+pub rows_most : (a : ℕ) (o : code.Option Built) (P L : List ℕ) (e : Expr) → built_from a o P L ≡ plain e → rows_in o ≤ suc (steps e)
+rows_most a o P L e q = go o (subst (AtMost (suc (steps e))) (sym q) (few_nodes e))
   where
-    go : (n : ℕ) → AtMost (suc (steps e)) (if_rows n (record { rows = table n (drop a P) (drop a L); s = r.s; d = r.d })) → n ≤ suc (steps e)
-    go zero h = omega arith
-    go (suc n) h = omega (arith, length_table (suc n) (drop a P) (drop a L))
+    go : (o : code.Option Built) → AtMost (suc (steps e)) (built_from a o P L) → rows_in o ≤ suc (steps e)
+    go None h = omega arith
+    go (Some r) h = omega (arith, length_table r.rows (drop a P) (drop a L))
 
 -- each operand has at most one more than it has steps
 pub used : (p : Pool) (n : ℕ) (es : List Expr) → get_or p.first 0 0 ≡ 0 → stack p n ≡ map plain es → get_or p.first n 0 ≤ all_steps es + n
@@ -67,6 +89,7 @@ used p (suc n) [] start e = never cc
 used p (suc n) (x ∷ es) start e =
     let rest = used p n es start (let z : stack p n ≡ map plain es = cc in z) in
     let here = rows_most (get_or p.first n 0) (built p n) p.parent p.label x (cc) in
+    let many = rows_stored p n in
     let next = ap (λ z. get_or p.first z 0) (let z : n + 1 ≡ suc n = omega arith in z) in
     omega arith
 
@@ -109,38 +132,32 @@ same_rows a b n P P' L L' ep el le = table_is n (drop b P') (drop b L') (table n
     ∙ rw (get_or-drop b P' i 0, get_or-drop b L' i 0, get_or-drop b P i 0, get_or-drop b L i 0, below a P P' ep (b + i) (omega arith), below a L L' el (b + i) (omega arith)) refl)
 
 -- marks as they are stored: where there are rows, they are among them
-stored : (a : ℕ) (l : Latest) (P L : List ℕ) → l.rows ≤ pool_rows → TreeO (latest_at a l P L)
-    → built_from a (record { rows = l.rows; s = l.s % 65536; d = l.d % 65536 }) P L ≡ latest_at a l P L
-stored a l P L few = go l.rows few
-  where
-    Q : ℕ → ℕ → ℕ → Query
-    Q n s d = record { rows = table n (drop a P) (drop a L); s = s; d = d }
-
-    go : (n : ℕ) → n ≤ pool_rows → TreeO (if_rows n (Q n l.s l.d)) → if_rows n (Q n (l.s % 65536) (l.d % 65536)) ≡ if_rows n (Q n l.s l.d)
-    go zero le t = refl
-    go (suc n) le t =
-        let s = live_below (suc n) (drop a P) (drop a L) l.s t.s_live in
-        let d = live_below (suc n) (drop a P) (drop a L) l.d t.d_live in
-        let es : l.s % 65536 ≡ l.s = mod-eq_of_lt (omega arith) in
-        let ed : l.d % 65536 ≡ l.d = mod-eq_of_lt (omega arith) in
-        rw (es, ed) refl
+kept_stored : (a : ℕ) (o : code.Option Built) (P L : List ℕ) → rows_in o ≤ pool_rows → TreeO (built_from a o P L)
+    → built_from a (stored (rows_in o) ((kept o).s % 65536) ((kept o).d % 65536)) P L ≡ built_from a o P L
+kept_stored a None P L few t = refl
+kept_stored a (Some r) P L few t =
+    let s = live_below r.rows (drop a P) (drop a L) r.s t.s_live in
+    let d = live_below r.rows (drop a P) (drop a L) r.d t.d_live in
+    let es : r.s % 65536 ≡ r.s = mod-eq_of_lt (omega arith) in
+    let ed : r.d % 65536 ≡ r.d = mod-eq_of_lt (omega arith) in
+    rw (es, ed) (stored_as a r.rows r.s r.d P L ∙ rows_some r.rows (query r.rows (drop a P) (drop a L) r.s r.d) (λ z. omega arith))
 
 module _ (p : Pool) (k : ℕ) (order : InOrder p k) (room : k < most_pending) (l : Latest) (P' L' : List ℕ) (o : Option Query)
-    (made : Made k (get_or p.first k 0) p.parent p.label l P' L' o) (tree : TreeO o) (fits : get_or p.first k 0 + l.rows ≤ pool_rows) where
+    (made : Made k (get_or p.first k 0) p.parent p.label l P' L' o) (tree : TreeO o) (fits : get_or p.first k 0 + rows_in l.built ≤ pool_rows) where
   abbrev F : List ℕ
   F = p.first
 
   abbrev F' : List ℕ
-  F' = set F (k + 1) (get_or F k 0 + l.rows)
+  F' = set F (k + 1) (get_or F k 0 + rows_in l.built)
 
   abbrev p' : Pool
-  p' = pool P' L' F' (set p.s k (l.s % 65536)) (set p.d k (l.d % 65536))
+  p' = pool P' L' F' (set p.s k ((kept l.built).s % 65536)) (set p.d k ((kept l.built).d % 65536))
 
   same_first : (j : ℕ) → j ≤ k → get_or F' j 0 ≡ get_or F j 0
-  same_first j le = get_or-set_other F (k + 1) j (get_or F k 0 + l.rows) 0 (λ e. omega arith)
+  same_first j le = get_or-set_other F (k + 1) j (get_or F k 0 + rows_in l.built) 0 (λ e. omega arith)
 
-  next_first : get_or F' (k + 1) 0 ≡ get_or F k 0 + l.rows
-  next_first = get_or-set_same F (k + 1) (get_or F k 0 + l.rows) 0 (omega (arith, order.firsts))
+  next_first : get_or F' (k + 1) 0 ≡ get_or F k 0 + rows_in l.built
+  next_first = get_or-set_same F (k + 1) (get_or F k 0 + rows_in l.built) 0 (omega (arith, order.firsts))
 
   put_below : (j : ℕ) → j < k → operand_at p' j ≡ operand_at p j
   unfolding operand_at
@@ -148,25 +165,27 @@ module _ (p : Pool) (k : ℕ) (order : InOrder p k) (room : k < most_pending) (l
       rw (
         same_first j (omega arith),
         same_first (j + 1) (omega arith),
-        get_or-set_other p.s k j (l.s % 65536) 0 (λ e. omega arith),
-        get_or-set_other p.d k j (l.d % 65536) 0 (λ e. omega arith),
+        get_or-set_other p.s k j ((kept l.built).s % 65536) 0 (λ e. omega arith),
+        get_or-set_other p.d k j ((kept l.built).d % 65536) 0 (λ e. omega arith),
       )
-      (ap (λ T. if_rows (get_or F (j + 1) 0 - get_or F j 0) (record { rows = T; s = get_or p.s j 0; d = get_or p.d j 0 }))
+      (stored_as (get_or F j 0) (get_or F (j + 1) 0 - get_or F j 0) (get_or p.s j 0) (get_or p.d j 0) P' L'
+      ∙ ap (λ T. if_rows (get_or F (j + 1) 0 - get_or F j 0) (record { rows = T; s = get_or p.s j 0; d = get_or p.d j 0 }))
       (same_rows (get_or F k 0) (get_or F j 0) (get_or F (j + 1) 0 - get_or F j 0) p.parent P' p.label L' made.parents made.labels
-      (omega (arith, order.up j lt, rises p k order (j + 1) k (omega arith) (omega arith)))))
+      (omega (arith, order.up j lt, rises p k order (j + 1) k (omega arith) (omega arith))))
+      ∙ sym (stored_as (get_or F j 0) (get_or F (j + 1) 0 - get_or F j 0) (get_or p.s j 0) (get_or p.d j 0) p.parent p.label))
 
   put_here : operand_at p' k ≡ o
   unfolding operand_at
   put_here =
-      let n : get_or F k 0 + l.rows - get_or F k 0 ≡ l.rows = omega arith in
+      let n : get_or F k 0 + rows_in l.built - get_or F k 0 ≡ rows_in l.built = omega arith in
       rw (
         same_first k (omega arith),
         next_first,
-        get_or-set_same p.s k (l.s % 65536) 0 (omega (arith, order.marks_s)),
-        get_or-set_same p.d k (l.d % 65536) 0 (omega (arith, order.marks_d)),
+        get_or-set_same p.s k ((kept l.built).s % 65536) 0 (omega (arith, order.marks_s)),
+        get_or-set_same p.d k ((kept l.built).d % 65536) 0 (omega (arith, order.marks_d)),
         n,
       )
-      (stored (get_or F k 0) l P' L' (omega arith) (subst TreeO (sym made.whole) tree) ∙ made.whole)
+      (kept_stored (get_or F k 0) l.built P' L' (omega arith) (subst TreeO (sym made.whole) tree) ∙ made.whole)
 
   put_rest : (m : ℕ) → m ≤ k → stack p' m ≡ stack p m
   unfolding stack

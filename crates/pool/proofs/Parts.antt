@@ -1,4 +1,5 @@
 -- The two latest operands, lent from the first row of the earlier on: what the lent part holds, and that the rows before it stay.
+use Rattle.std.specs.Prelude as code
 use mathlib.Core.Path.{◌≡◌, refl, sym, ap, subst, ◌∙◌}
 use mathlib.Core.Bool.{Bool}
 use mathlib.Core.List.{List, [], ◌++◌, append-nil}
@@ -12,10 +13,10 @@ use Rattle.meaning.specs.Gluing.{two, plain}
 use Rattle.theory.proofs.Plain.{TreeO}
 use Rattle.glue.specs.declared.trees.Built.{Built}
 use Rattle.glue.specs.Rows.{RowsFit}
-use Rattle.glue.specs.Trees.{built_of, built_from, chosen}
+use Rattle.glue.specs.Trees.{rows_in, built_of, built_from, chosen}
 use Rattle.pool.specs.Pool.{Pool, built, operand_at, InOrder, Trees}
 use Rattle.pool.specs.Latest.{Made}
-use Rattle.pool.proofs.Operands.{rises}
+use Rattle.pool.proofs.Operands.{rows_stored, rises}
 
 -- the list from a on, as it is lent
 abbrev lent : ℕ → List ℕ → List ℕ
@@ -38,7 +39,7 @@ latest_asks p n o k lt =
     (omega (arith, o.firsts, o.few), omega (arith, o.marks_s, o.few), omega (arith, o.marks_d, o.few), o.up k lt)
 
 module _ (p : Pool) (n : ℕ) (le : 2 ≤ n) (order : InOrder p n) (a : ℕ) (ea : a ≡ get_or p.first (n - 2) 0)
-    (q₁ q₂ : Built) (e₁ : q₁ ≡ built p (n - 2)) (e₂ : q₂ ≡ built p (n - 2 + 1)) where
+    (q₁ q₂ : code.Option Built) (e₁ : q₁ ≡ built p (n - 2)) (e₂ : q₂ ≡ built p (n - 2 + 1)) where
   abbrev P : List ℕ
   P = p.parent
 
@@ -52,17 +53,17 @@ module _ (p : Pool) (n : ℕ) (le : 2 ≤ n) (order : InOrder p n) (a : ℕ) (ea
   last = omega arith
 
   -- where the second starts
-  behind : a + q₁.rows ≡ get_or p.first (n - 1) 0
-  behind = let z = ap (λ (q : Built). q.rows) e₁ in let w = ap (λ k. get_or p.first k 0) on in omega (arith, order.up (n - 2) (omega arith))
+  behind : a + rows_in q₁ ≡ get_or p.first (n - 1) 0
+  behind = let z = ap rows_in e₁ ∙ rows_stored p (n - 2) in let w = ap (λ k. get_or p.first k 0) on in omega (arith, order.up (n - 2) (omega arith))
 
-  ends : a + (q₁.rows + q₂.rows) ≡ get_or p.first n 0
+  ends : a + (rows_in q₁ + rows_in q₂) ≡ get_or p.first n 0
   ends =
-      let z = ap (λ (q : Built). q.rows) e₂ in
+      let z = ap rows_in e₂ ∙ rows_stored p (n - 2 + 1) in
       let w = ap (λ k. get_or p.first k 0) on in
       let v = ap (λ k. get_or p.first k 0) last in
       omega (arith, behind, rises p n order (n - 1) n (omega arith) (omega arith))
 
-  pub lent_fits : a ≤ length P × (a ≤ length L) × RowsFit (q₁.rows + q₂.rows) (lent a P) (lent a L)
+  pub lent_fits : a ≤ length P × (a ≤ length L) × RowsFit (rows_in q₁ + rows_in q₂) (lent a P) (lent a L)
   lent_fits =
       let e = order.end in
       let f = order.parents in
@@ -80,16 +81,16 @@ module _ (p : Pool) (n : ℕ) (le : 2 ≤ n) (order : InOrder p n) (a : ℕ) (ea
   unfolding operand_at
   first_is = rw (lent_is a P, lent_is a L, e₁, ea) refl
 
-  second_is : operand_at p (n - 1) ≡ built_from q₁.rows q₂ (lent a P) (lent a L)
+  second_is : operand_at p (n - 1) ≡ built_from (rows_in q₁) q₂ (lent a P) (lent a L)
   unfolding operand_at
-  second_is = rw (lent_is a P, lent_is a L, drop-drop q₁.rows a P, drop-drop q₁.rows a L, behind, e₂, on) refl
+  second_is = rw (lent_is a P, lent_is a L, drop-drop (rows_in q₁) a P, drop-drop (rows_in q₁) a L, behind, e₂, on) refl
 
-  pub lent_trees : Trees p n → TreeO (built_of q₁ (lent a P) (lent a L)) × TreeO (built_from q₁.rows q₂ (lent a P) (lent a L))
+  pub lent_trees : Trees p n → TreeO (built_of q₁ (lent a P) (lent a L)) × TreeO (built_from (rows_in q₁) q₂ (lent a P) (lent a L))
   lent_trees trees = (subst TreeO first_is (trees (n - 2) (omega arith)), subst TreeO second_is (trees (n - 1) (omega arith)))
 
-  pub lent_made : (both : Bool) (r : Built) (P' L' : List ℕ) → built_of r P' L' ≡ two (chosen both) (built_of q₁ (lent a P) (lent a L)) (built_from q₁.rows q₂ (lent a P) (lent a L))
+  pub lent_made : (both : Bool) (r : code.Option Built) (P' L' : List ℕ) → built_of r P' L' ≡ two (chosen both) (built_of q₁ (lent a P) (lent a L)) (built_from (rows_in q₁) q₂ (lent a P) (lent a L))
       → (e g h : Expr) → plain h ≡ two (chosen both) (plain e) (plain g) → operand_at p (n - 2) ≡ plain e → operand_at p (n - 1) ≡ plain g
-      → Made (n - 2) (get_or p.first (n - 2) 0) P L (record { at = n - 2; rows = r.rows; s = r.s; d = r.d })
+      → Made (n - 2) (get_or p.first (n - 2) 0) P L (record { at = n - 2; built = r })
       (put_mid a (length P - a) P P') (put_mid a (length L - a) L L') (plain h)
   lent_made both r P' L' q e g h m o₁ o₂ =
       let (lp, ll, f) = lent_fits in

@@ -1,4 +1,5 @@
 -- An accepted word read once more: the pool holds what is pending, sign by sign, and at the end the plain tree query of the word's expression.
+use Rattle.std.specs.Prelude as code
 use mathlib.Core.Path.{◌≡◌, refl, sym, ap, subst, ◌∙◌}
 use mathlib.Core.List.{List, map}
 use Prim.Native.Nat.{ℕ, ◌+◌, ◌≤◌, ◌<◌}
@@ -94,7 +95,7 @@ pub last_fits : (p : Pool) (e : Expr) → PoolForOnly p e → (0 + 1 < length p.
 last_fits p e (st, only, h) = let o = h.order in
     (omega (arith, o.firsts), omega (arith, o.marks_s), omega (arith, o.marks_d), o.up 0 (omega arith))
 
-pub reading_end : (w : List ℕ) (p : Pool) → (e : Expr) × (read_word w ≡ answered e) × PoolForOnly p e → (r : Built) → r ≡ built p 0
+pub reading_end : (w : List ℕ) (p : Pool) → (e : Expr) × (read_word w ≡ answered e) × PoolForOnly p e → (r : code.Option Built) → r ≡ built p 0
     → and_then (read_word w) (λ e. answered (plain e)) ≡ answered (built_of r p.parent p.label)
 unfolding stack operand_at
 reading_end w p (e, word, (st, only, h)) r er =

@@ -13,6 +13,7 @@ use Rattle.meaning.specs.Limits.{most_pending, most_steps, too_many_pending, too
 use Rattle.meaning.specs.Word.{refused, answered, operand, unary, binary, sign_of, is_step, Pending, on_one, on_two, counted, pushed, takes}
 use Rattle.theory.proofs.Look.{never}
 use Rattle.glue.specs.Rows.{pool_rows}
+use Rattle.glue.specs.Trees.{kept, rows_in}
 use Rattle.pool.specs.declared.operand.Latest.{Latest}
 use Rattle.theory.proofs.Accepted.{all_steps}
 use Rattle.pool.specs.Pool.{Pool, pool, operand_at, stack, InOrder, Trees, PoolFor, Passes}
@@ -198,10 +199,10 @@ module _ (p : Pool) (n v : ℕ) (f : Expr → Expr → Expr) (es : sign_of v ≡
 
 -- ------------------------------------------------------------------ the latest operand is put in its place
 module _ (p : Pool) (l : Latest) (P' L' : List ℕ) (st : Pending) (g : Gives p l P' L' st) where
-  fits : get_or p.first g.place 0 + l.rows ≤ pool_rows
+  fits : get_or p.first g.place 0 + rows_in l.built ≤ pool_rows
   fits =
       let u = used p g.place g.rest g.order.start g.below in
-      let r = rows_most (get_or p.first g.place 0) (record { rows = l.rows; s = l.s; d = l.d }) P' L' g.latest g.made.whole in
+      let r = rows_most (get_or p.first g.place 0) l.built P' L' g.latest g.made.whole in
       let s = ap all_steps g.operands in
       omega (arith, u, r, s, g.count, g.few, g.room)
 
@@ -209,7 +210,7 @@ module _ (p : Pool) (l : Latest) (P' L' : List ℕ) (st : Pending) (g : Gives p 
   gives_fits = rw g.made.place (g.room, g.order.firsts, g.order.marks_s, g.order.marks_d, fits)
 
   pub gives_holds : length P' ≡ length p.parent → length L' ≡ length p.label → (F' S' D' : List ℕ) (n' : ℕ) → n' ≡ l.at + 1
-      → F' ≡ set p.first (l.at + 1) (get_or p.first l.at 0 + l.rows) → S' ≡ set p.s l.at (l.s % 65536) → D' ≡ set p.d l.at (l.d % 65536)
+      → F' ≡ set p.first (l.at + 1) (get_or p.first l.at 0 + rows_in l.built) → S' ≡ set p.s l.at ((kept l.built).s % 65536) → D' ≡ set p.d l.at ((kept l.built).d % 65536)
       → PoolFor (pool P' L' F' S' D') n' st
   gives_holds lp ll F' S' D' n' en ef es ed =
       let k = g.place in

@@ -1,10 +1,11 @@
--- "That no second answer fits is itself a proved statement": the query that was built determines the number of rows, what stands in them, and, where
--- there are rows, the marks.
+-- "That no second answer fits is itself a proved statement": the query that was built determines the number of rows, the marks, and what stands in
+-- the rows.
+use Rattle.std.specs.Prelude as code
+use Rattle.std.specs.Prelude.{Some, None}
 use mathlib.Core.Path.{◌≡◌, refl, sym, ap, ◌∙◌}
-use mathlib.Core.Logic.{◌≢◌}
 use mathlib.Core.Option.{Option, some}
 use mathlib.Core.List.{List}
-use Prim.Native.Nat.{ℕ, zero, suc, ◌<◌}
+use Prim.Native.Nat.{ℕ, ◌<◌}
 use native.Mathlib.Decide.{ℕ_discrete}
 use native.Mathlib.Omega.{arith}
 use lib.ListN.{length, get_or}
@@ -16,8 +17,8 @@ use Rattle.rows.proofs.Rows.{lab_code_lem}
 use Rattle.rows.proofs.Unique.{SameBelow}
 use Rattle.theory.proofs.Look.{never}
 use Rattle.glue.specs.declared.trees.Built.{Built}
-use Rattle.rows.specs.Table.{parent_of, row_at, table, if_rows, query}
-use Rattle.glue.specs.Trees.{built_of}
+use Rattle.rows.specs.Table.{parent_of, row_at, table, query}
+use Rattle.glue.specs.Trees.{rows_in, built_of}
 use Rattle.rows.proofs.Table.{parent_none, parent_some, length_table, at_table}
 
 parent_same : (p q : ℕ) → parent_of p ≡ parent_of q → p ≡ q
@@ -38,17 +39,18 @@ table_same n P L P' L' e = (λ i l. parent_same (get_or P i 0) (get_or P' i 0) (
     row : (i : ℕ) → i < n → (parent_of (get_or P i 0) ≡ parent_of (get_or P' i 0)) × (lab_of (get_or L i 0) ≡ lab_of (get_or L' i 0))
     row i l = let z : some (row_at P L i) ≡ some (row_at P' L' i) = sym (at_table n P L i l) ∙ ap (λ T. at T i) e ∙ at_table n P' L' i l in (cc, cc)
 
-pub built_unique : (o : Outcome (Option Query)) (r r' : Built) (P L P' L' : List ℕ) → o ≡ answered (built_of r P L) → o ≡ answered (built_of r' P' L')
-    → (r.rows ≡ r'.rows) × (r.rows ≢ 0 → (r.s ≡ r'.s) × (r.d ≡ r'.d)) × SameBelow r.rows P P' × SameBelow r.rows L L'
-built_unique o r r' P L P' L' p q = go r.rows r'.rows (let z : answered (built_of r P L) ≡ answered (built_of r' P' L') = sym p ∙ q in cc)
+pub built_unique : (o : Outcome (Option Query)) (r r' : code.Option Built) (P L P' L' : List ℕ) → o ≡ answered (built_of r P L) → o ≡ answered (built_of r' P' L')
+    → (r ≡ r') × SameBelow (rows_in r) P P' × SameBelow (rows_in r) L L'
+built_unique o r r' P L P' L' p q = go r r' (let z : answered (built_of r P L) ≡ answered (built_of r' P' L') = sym p ∙ q in cc)
   where
-    go : (n m : ℕ) → if_rows n (query n P L r.s r.d) ≡ if_rows m (query m P' L' r'.s r'.d)
-        → (n ≡ m) × (n ≢ 0 → (r.s ≡ r'.s) × (r.d ≡ r'.d)) × SameBelow n P P' × SameBelow n L L'
-    go zero zero e = (refl, λ x. absurd (x refl), λ i l. absurd (omega arith), λ i l. absurd (omega arith))
-    go zero (suc m) e = never cc
-    go (suc n) zero e = never cc
-    go (suc n) (suc m) e =
-        let z : query (suc n) P L r.s r.d ≡ query (suc m) P' L' r'.s r'.d = cc in
-        let k : suc n ≡ suc m = sym (length_table (suc n) P L) ∙ ap (λ (Q : Query). length Q.rows) z ∙ length_table (suc m) P' L' in
-        let t = table_same (suc n) P L P' L' (ap (λ (Q : Query). Q.rows) z ∙ ap (λ j. table j P' L') (sym k)) in
-        (k, λ x. (ap (λ (Q : Query). Q.s) z, ap (λ (Q : Query). Q.d) z), t.0, t.1)
+    go : (a b : code.Option Built) → built_of a P L ≡ built_of b P' L' → (a ≡ b) × SameBelow (rows_in a) P P' × SameBelow (rows_in a) L L'
+    go None None e = (refl, λ i l. absurd (omega arith), λ i l. absurd (omega arith))
+    go None (Some b) e = never cc
+    go (Some a) None e = never cc
+    go (Some a) (Some b) e =
+        let z : query a.rows P L a.s a.d ≡ query b.rows P' L' b.s b.d = cc in
+        let k : a.rows ≡ b.rows = sym (length_table a.rows P L) ∙ ap (λ (Q : Query). length Q.rows) z ∙ length_table b.rows P' L' in
+        let s : a.s ≡ b.s = ap (λ (Q : Query). Q.s) z in
+        let d : a.d ≡ b.d = ap (λ (Q : Query). Q.d) z in
+        let t = table_same a.rows P L P' L' (ap (λ (Q : Query). Q.rows) z ∙ ap (λ j. table j P' L') (sym k)) in
+        (ap Some (let w : a ≡ b = rw (← k, ← s, ← d) refl in w), t.0, t.1)

@@ -1,4 +1,5 @@
 -- What a sign makes of the latest operands: one operand, in the rows from the start of the earliest that it takes.
+use Rattle.std.specs.Prelude as code
 use Rattle.std.specs.Prelude.{◌≡◌, List, [], ◌∷◌, map, ℕ, ◌+◌, ◌≤◌, ◌<◌, length, get_or, take}
 use Rattle.std.proofs.Math.Option.{Option, none, some}
 use Rattle.meaning.specs.Expression.{Expr}
@@ -7,20 +8,20 @@ use Rattle.meaning.specs.Gluing.{plain}
 use Rattle.meaning.specs.Limits.{most_pending, most_steps}
 use Rattle.meaning.specs.Word.{Pending, takes, answered}
 use Rattle.rows.specs.Rows.{lab_of}
-use Rattle.rows.specs.Table.{if_rows}
-use Rattle.glue.specs.Rows.{pool_rows}
-use Rattle.glue.specs.Trees.{built_from}
+use Rattle.glue.specs.declared.trees.Built.{Built}
+use Rattle.glue.specs.Rows.{pool_rows, given}
+use Rattle.glue.specs.Trees.{rows_in, built_from}
 use Rattle.pool.specs.declared.operand.Latest.{Latest}
 use Rattle.theory.proofs.Accepted.{all_steps}
 use Rattle.pool.specs.Pool.{Pool, stack, InOrder, PoolFor}
 
 -- the operand l, in the rows from a on
 abbrev pub latest_at : ℕ → Latest → List ℕ → List ℕ → Option Query
-latest_at a l P L = built_from a (record { rows = l.rows; s = l.s; d = l.d }) P L
+latest_at a l P L = built_from a l.built P L
 
--- of a top with a label code and its child as many rows as l has, with the marks of l
-abbrev pub topped : ℕ → Latest → Option Query
-topped code l = if_rows l.rows (record { rows = take l.rows (node none (lab_of code) ∷ node (some 0) any ∷ []); s = l.s; d = l.d })
+-- of a top with a label code and its child as many rows as o has, with the marks of o
+abbrev pub topped : ℕ → code.Option Built → Option Query
+topped c o = given (λ r. record { rows = take r.rows (node none (lab_of c) ∷ node (some 0) any ∷ []); s = r.s; d = r.d }) o
 
 -- operand k is the query o, in the rows from a on, and the rows before it stay
 pub record Made (k a : ℕ) (P L : List ℕ) (l : Latest) (P' L' : List ℕ) (o : Option Query) : Type 0 where
@@ -48,4 +49,4 @@ Makes p n sign l P' L' = (st st' : Pending) (at : ℕ) → PoolFor p n st → ta
 -- there is room for l in the pool
 abbrev pub PutFits : Latest → List ℕ → List ℕ → List ℕ → Type 0
 PutFits l F S D =
-    (l.at < most_pending) × (most_pending < length F) × (most_pending ≤ length S) × (most_pending ≤ length D) × (get_or F l.at 0 + l.rows ≤ pool_rows)
+    (l.at < most_pending) × (most_pending < length F) × (most_pending ≤ length S) × (most_pending ≤ length D) × (get_or F l.at 0 + rows_in l.built ≤ pool_rows)

@@ -1,6 +1,7 @@
 -- The pending operands in one pool of rows: the rows of operand k start at entry k of `first` and end before entry k + 1, its marks are the
 -- entries k of `s` and `d`, and its links count from its own first row. An operand without rows is empty.
-use Rattle.std.specs.Prelude.{◌≡◌, List, [], ◌∷◌, map, ℕ, zero, suc, ◌+◌, ◌-◌, ◌≤◌, ◌<◌, length, get_or}
+use Rattle.std.specs.Prelude as code
+use Rattle.std.specs.Prelude.{Some, None, ◌≡◌, List, [], ◌∷◌, map, ℕ, zero, suc, ◌+◌, ◌-◌, ◌≤◌, ◌<◌, length, get_or}
 use Rattle.std.proofs.Math.Option.{Option}
 use Rattle.meaning.specs.Expression.{Expr}
 use Rattle.meaning.specs.TreeQuery.{Query}
@@ -23,9 +24,14 @@ pub record Pool : Type 0 where
 abbrev pub pool : List ℕ → List ℕ → List ℕ → List ℕ → List ℕ → Pool
 pool P L F S D = record { parent = P; label = L; first = F; s = S; d = D }
 
+-- what a number of rows and two marks are
+abbrev pub stored : ℕ → ℕ → ℕ → code.Option Built
+stored zero s d = None
+stored (suc n) s d = Some (record { rows = suc n; s = s; d = d })
+
 -- operand k: its rows and marks, and the query that they are
-abbrev pub built : Pool → ℕ → Built
-built p k = record { rows = get_or p.first (k + 1) 0 - get_or p.first k 0; s = get_or p.s k 0; d = get_or p.d k 0 }
+abbrev pub built : Pool → ℕ → code.Option Built
+built p k = stored (get_or p.first (k + 1) 0 - get_or p.first k 0) (get_or p.s k 0) (get_or p.d k 0)
 
 unfoldable pub operand_at : Pool → ℕ → Option Query
 operand_at p k = built_from (get_or p.first k 0) (built p k) p.parent p.label

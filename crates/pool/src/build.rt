@@ -63,8 +63,8 @@ fn apply_signs(
 }
 
 // The word is accepted, and the caller lends the rows of the pool, a mark of each kind for each operand that may be pending, and one start of an
-// operand more; what they hold before does not matter. Afterwards the first r.rows rows are the plain tree query, with its marks in r; no rows:
-// empty.
+// operand more; what they hold before does not matter. Afterwards the first r.rows rows are the plain tree query, with its marks in r; none: it
+// is empty.
 pub fn build(
     word: &[u8],
     parent: &mut [u16],
@@ -72,7 +72,7 @@ pub fn build(
     first: &mut [u16],
     s: &mut [u16],
     d: &mut [u16],
-) -> Built
+) -> Option<Built>
     requires accepted { (e : Expr) × (read_word word.now ≡ answered e) }
     requires sizes { (pool_rows ≤ length parent.old) × (pool_rows ≤ length label.old)
         × (most_pending < length first.old) × (most_pending ≤ length s.old) × (most_pending ≤ length d.old) }

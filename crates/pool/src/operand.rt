@@ -4,39 +4,41 @@ ghost use Rattle.meaning.specs.Expression.{Expr};
 ghost use Rattle.meaning.specs.Gluing.{plain};
 ghost use Rattle.meaning.specs.Word.{operand, unary, binary, sign_of};
 ghost use Rattle.glue.specs.Rows.{pool_rows};
-ghost use Rattle.glue.specs.Trees.{built_from};
+ghost use Rattle.glue.specs.Trees.{kept, rows_in, built_from};
 ghost use Rattle.pool.specs.Pool.{pool, built, operand_at, InOrder, Trees, Passes};
-ghost use Rattle.pool.specs.Latest.{latest_at, topped, Made, Makes, PutFits};
+ghost use Rattle.pool.specs.Latest.{topped, Made, Makes, PutFits};
 
-use glue::trees::{Built, glue_two};
+use glue::trees::{Built, glue_two, kept};
 use rows::{NO_ROW, link, set_link};
 use word::sign::{
     CHILD, EMPTY, FIRST_LABEL, FIRST_PROJECTION, INTERSECTION, Kind, PARENT, SECOND_PROJECTION,
     kind_of,
 };
 
-// The latest operand once a sign is applied: its place among the pending operands, its rows and its marks.
+// The latest operand once a sign is applied: its place among the pending operands, and what was built.
 #[derive(Clone, Copy)]
 pub struct Latest {
     pub at: usize,
-    pub rows: usize,
-    pub s: usize,
-    pub d: usize,
+    pub built: Option<Built>,
 }
 
 // "9+L: label L", and the code of label L is L+1.
 const CODE_TO_SIGN: u32 = FIRST_LABEL - 1;
 
 // Operand k as it stands.
-pub fn operand(first: &[u16], s: &[u16], d: &[u16], k: usize) -> Built
+pub fn operand(first: &[u16], s: &[u16], d: &[u16], k: usize) -> Option<Built>
     requires { (k + 1 < length first.now) × (k < length s.now) × (k < length d.now) × (get_or first.now k 0 ≤ get_or first.now (k + 1) 0) }
     ensures { (P L : List ℕ) → result ≡ built (pool P L first.now s.now d.now) k }
 {
-    Built {
-        rows: link(first, k + 1) - link(first, k),
+    let rows = link(first, k + 1) - link(first, k);
+    if rows == 0 {
+        return None;
+    }
+    Some(Built {
+        rows,
         s: link(s, k),
         d: link(d, k),
-    }
+    })
 }
 
 // The label code of an operand sign's top: a label's, or the wildcard's.
@@ -50,34 +52,26 @@ fn code_of(sign: u32) -> u32
 }
 
 // "self and a label give one node, child a top s with one child d; parent the same with s and d exchanged": the rows and marks of an operand sign.
-fn shape(k: usize, sign: u32) -> Latest
-    ensures { (result.at ≡ k) × (result.rows ≤ 2) × ((e : Expr) → sign_of sign ≡ operand e → topped (sign - 8) result ≡ plain e) }
+fn shape(sign: u32) -> Option<Built>
+    ensures { (rows_in result ≤ 2) × ((e : Expr) → sign_of sign ≡ operand e → topped (sign - 8) result ≡ plain e) }
 {
     match sign {
-        EMPTY => Latest {
-            at: k,
-            rows: 0,
-            s: 0,
-            d: 0,
-        },
-        CHILD => Latest {
-            at: k,
+        EMPTY => None,
+        CHILD => Some(Built {
             rows: 2,
             s: 0,
             d: 1,
-        },
-        PARENT => Latest {
-            at: k,
+        }),
+        PARENT => Some(Built {
             rows: 2,
             s: 1,
             d: 0,
-        },
-        _ => Latest {
-            at: k,
+        }),
+        _ => Some(Built {
             rows: 1,
             s: 0,
             d: 0,
-        },
+        }),
     }
 }
 
@@ -94,33 +88,22 @@ fn lay(parent: &mut [u16], label: &mut [u32], first: &[u16], pending: usize, sig
     parent[v] = 0;
     label[u] = code_of(sign);
     label[v] = 0;
-    shape(pending, sign)
+    Latest {
+        at: pending,
+        built: shape(sign),
+    }
 }
 
 // "Projections move one mark to the other's node, inverse exchanges them."
-fn turned(k: usize, q: Built, sign: u32) -> Latest
-    ensures { (result.at ≡ k) × ((f : Expr → Expr) (e : Expr) (a : ℕ) (P L : List ℕ) → sign_of sign ≡ unary f → built_from a q P L ≡ plain e
-        → latest_at a result P L ≡ plain (f e)) }
+fn turned(q: Option<Built>, sign: u32) -> Option<Built>
+    ensures { (f : Expr → Expr) (e : Expr) (a : ℕ) (P L : List ℕ) → sign_of sign ≡ unary f → built_from a q P L ≡ plain e
+        → built_from a result P L ≡ plain (f e) }
 {
+    let Built { rows, s, d } = q?;
     match sign {
-        FIRST_PROJECTION => Latest {
-            at: k,
-            rows: q.rows,
-            s: q.s,
-            d: q.s,
-        },
-        SECOND_PROJECTION => Latest {
-            at: k,
-            rows: q.rows,
-            s: q.d,
-            d: q.d,
-        },
-        _ => Latest {
-            at: k,
-            rows: q.rows,
-            s: q.d,
-            d: q.s,
-        },
+        FIRST_PROJECTION => Some(Built { rows, s, d: s }),
+        SECOND_PROJECTION => Some(Built { rows, s: d, d }),
+        _ => Some(Built { rows, s: d, d: s }),
     }
 }
 
@@ -133,7 +116,10 @@ fn turn(first: &[u16], s: &[u16], d: &[u16], pending: usize, sign: u32) -> Lates
         → Made (pending - 1) (get_or first.now (pending - 1) 0) P L result P L (plain (f e)) }
 {
     let k = pending - 1;
-    turned(k, operand(first, s, d, k), sign)
+    Latest {
+        at: k,
+        built: turned(operand(first, s, d, k), sign),
+    }
 }
 
 // "Signs 4 and 7 take the two latest operands, the earlier as first": their rows are used again for what comes of them.
@@ -155,19 +141,14 @@ fn glue_latest(
     let a = link(first, k);
     let p = operand(first, s, d, k);
     let q = operand(first, s, d, k + 1);
-    let r = glue_two(
+    let built = glue_two(
         &mut parent[a..],
         &mut label[a..],
         p,
         q,
         sign == INTERSECTION,
     );
-    Latest {
-        at: k,
-        rows: r.rows,
-        s: r.s,
-        d: r.d,
-    }
+    Latest { at: k, built }
 }
 
 // What a sign that the check of the word lets pass makes of the latest operands, in the rows.
@@ -195,13 +176,14 @@ pub fn make(
 // that are pending then.
 pub fn put_latest(first: &mut [u16], s: &mut [u16], d: &mut [u16], l: Latest) -> usize
     requires { PutFits l first.old s.old d.old }
-    ensures { (result ≡ l.at + 1) × (first.new ≡ set first.old (l.at + 1) (get_or first.old l.at 0 + l.rows))
-        × (s.new ≡ set s.old l.at (l.s % 65536)) × (d.new ≡ set d.old l.at (l.d % 65536)) }
+    ensures { (result ≡ l.at + 1) × (first.new ≡ set first.old (l.at + 1) (get_or first.old l.at 0 + rows_in l.built))
+        × (s.new ≡ set s.old l.at ((kept l.built).s % 65536)) × (d.new ≡ set d.old l.at ((kept l.built).d % 65536)) }
 {
     let k = l.at;
-    let end = link(first, k) + l.rows;
+    let b = kept(l.built);
+    let end = link(first, k) + b.rows;
     set_link(first, k + 1, end);
-    s[k] = (l.s % 65536) as u16;
-    d[k] = (l.d % 65536) as u16;
+    s[k] = (b.s % 65536) as u16;
+    d[k] = (b.d % 65536) as u16;
     k + 1
 }

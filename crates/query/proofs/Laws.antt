@@ -1,4 +1,6 @@
 -- The table that gluing leaves of an accepted word is a tree query, and its trees are those of the word.
+use Rattle.std.specs.Prelude as code
+use Rattle.std.specs.Prelude.{Some, None}
 use mathlib.Core.Path.{◌≡◌, refl, sym, ap, subst, ◌∙◌}
 use mathlib.Core.Option.{Option, some}
 use mathlib.Core.List.{List}
@@ -16,8 +18,10 @@ use Rattle.theory.proofs.Plain.{AtMost, RowsIn, TreeO, plain_means, means_tree, 
 use Rattle.theory.proofs.Limits.{InRange}
 use Rattle.theory.proofs.Accepted.{accepted}
 use Rattle.rows.specs.Rows.{lab_of}
-use Rattle.rows.specs.Table.{parent_of, query_of, QueryTable}
-use Rattle.rows.proofs.Table.{length_table, at_table}
+use Rattle.rows.specs.Table.{parent_of, query, query_of, QueryTable}
+use Rattle.rows.proofs.Table.{length_table, at_table, live_below, rows_some}
+use Rattle.glue.specs.declared.trees.Built.{Built}
+use Rattle.glue.specs.Trees.{kept, built_of}
 use Rattle.tree.specs.Tables.{RowsAre}
 use Rattle.query.specs.Trees.{Accepted, RowsOf}
 
@@ -47,19 +51,28 @@ query_table P L (suc n) s d k top lp ll few labels tree =
       valid = λ _. tree;
     }
 
--- the rows that gluing left are the word's plain tree query
-module _ (word P L : List ℕ) (n s d : ℕ) (built : and_then (read_word word) (λ e. answered (plain e)) ≡ answered (query_of P L n s d)) where
-  plain_built : (e : Expr) → read_word word ≡ answered e → plain e ≡ query_of P L n s d
-  plain_built e r = let z : answered (plain e) ≡ answered (query_of P L n s d) = rw r at built in cc
+-- a query that may be empty, as a table keeps it; a tree query has rows
+kept_query : (o : code.Option Built) (P L : List ℕ) → TreeO (built_of o P L) → built_of o P L ≡ query_of P L (kept o).rows (kept o).s (kept o).d
+kept_query None P L t = refl
+kept_query (Some r) P L t = let s = live_below r.rows P L r.s t.s_live in sym (rows_some r.rows (query r.rows P L r.s r.d) (λ z. omega arith))
 
-  pub built_table : Accepted word → most_nodes ≤ length P → most_nodes ≤ length L → QueryTable P L n s d
-  built_table (e, r) lp ll =
-      let b = plain_built e r in
-      let a = accepted word e r in
-      query_table P L n s d (suc (steps e)) (omega (arith, a.0)) lp ll (subst (AtMost (suc (steps e))) b (few_nodes e))
+-- the rows that gluing left are the word's plain tree query
+module _ (word P L : List ℕ) (o : code.Option Built) (r : Built) (er : r ≡ kept o)
+    (built : and_then (read_word word) (λ e. answered (plain e)) ≡ answered (built_of o P L)) where
+  plain_built : (e : Expr) → read_word word ≡ answered e → plain e ≡ query_of P L r.rows r.s r.d
+  plain_built e w =
+      let z : answered (plain e) ≡ answered (built_of o P L) = rw w at built in
+      let p : plain e ≡ built_of o P L = cc in
+      rw er (p ∙ kept_query o P L (subst TreeO p (means_tree (pairs e) (plain e) (plain_means e))))
+
+  pub built_table : Accepted word → most_nodes ≤ length P → most_nodes ≤ length L → QueryTable P L r.rows r.s r.d
+  built_table (e, w) lp ll =
+      let b = plain_built e w in
+      let a = accepted word e w in
+      query_table P L r.rows r.s r.d (suc (steps e)) (omega (arith, a.0)) lp ll (subst (AtMost (suc (steps e))) b (few_nodes e))
       (subst (RowsIn InRange) b (plain_labels InRange e a.1)) (subst TreeO b (means_tree (pairs e) (plain e) (plain_means e)))
 
   -- rows of the table's tree are rows of the word's
   pub built_rows : (F : Option Query → Forest Tag) {code mark kids span up : List ℕ} {m : ℕ}
-      → RowsAre (F (query_of P L n s d)) code mark kids span up m → RowsOf (λ e. F (plain e)) word code mark kids span up m
-  built_rows F A = record { rows = A.rows; tree = λ e r. A.tree ∙ ap F (sym (plain_built e r)); room = A.room }
+      → RowsAre (F (query_of P L r.rows r.s r.d)) code mark kids span up m → RowsOf (λ e. F (plain e)) word code mark kids span up m
+  built_rows F A = record { rows = A.rows; tree = λ e w. A.tree ∙ ap F (sym (plain_built e w)); room = A.room }

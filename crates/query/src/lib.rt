@@ -7,6 +7,7 @@ ghost use Rattle.meaning.specs.Gluing.{plain};
 ghost use Rattle.rows.specs.Table.{image_tree};
 ghost use Rattle.query.specs.Trees.{Accepted, RowsOf};
 
+use glue::trees::kept;
 use limits::most::MOST_NODES;
 use pool::build::{POOL_ROWS, build};
 use rows::{Codes, Links, Marks};
@@ -30,14 +31,14 @@ pub fn word_rows(
     let mut first = [0u16; MOST_NODES + 1];
     let mut next = [0u16; MOST_NODES + 1];
     let mut row = [0u16; MOST_NODES];
-    let built = build(
+    let built = kept(build(
         word,
         &mut parent,
         &mut label,
         &mut first,
         &mut next,
         &mut row,
-    );
+    ));
     tree::query_rows(
         folded, &parent, &label, built.rows, built.s, built.d, &mut first, &mut next, code, mark,
         kids, span, up,

@@ -33,7 +33,7 @@ pub struct TreeRows {
     pub len: usize,
 }
 
-// The parent of the top: no row.
+// The parent of the top: no row. A number and no `Option<u16>`: that takes twice the memory, and links are renumbered in 16 bits, eight at a time (glue).
 pub const NO_ROW: u16 = 65535;
 
 // The bits of a mark: "mark (0 none, 1 s, 2 d, 3 both)".

@@ -3,16 +3,18 @@ use Rattle.rows.specs.Table.{image_tree}
 use Rattle.query.proofs.Laws.{built_table, built_rows}
 use Rattle.query.proofs.word_rows.Goals as goal
 
-pub build-built-requires : goal.build-built-requires
-build-built-requires c = record { accepted = c.requires.0; sizes = (omega arith, omega arith, omega arith, omega arith, omega arith) }
+pub build-requires : goal.build-requires
+build-requires c = record { accepted = c.requires.0; sizes = (omega arith, omega arith, omega arith, omega arith, omega arith) }
 
 pub query_rows-requires : goal.query_rows-requires
 query_rows-requires c =
-    let p = c.requires in let b = c.build-built in let t = b.new in let r = b.result in let k = b.auto in (
-      built_table _ t.parent t.label r.rows r.s r.d b.ensures p.0 (omega (arith, k.parent)) (omega (arith, k.label)),
+    let p = c.requires in let b = c.build in let t = b.new in let r = c.kept-built in let k = b.auto in (
+      built_table _ t.parent t.label b.result r.result r.ensures b.ensures p.0 (omega (arith, k.parent)) (omega (arith, k.label)),
       record { firsts = k.first; nexts = k.s },
       p.1,
     )
 
 pub returns : goal.returns
-returns c = let b = c.build-built in let t = b.new in let r = b.result in built_rows _ t.parent t.label r.rows r.s r.d b.ensures (image_tree c.args.folded) c.query_rows.ensures
+returns c =
+    let b = c.build in let t = b.new in let r = c.kept-built in
+    built_rows _ t.parent t.label b.result r.result r.ensures b.ensures (image_tree c.args.folded) c.query_rows.ensures

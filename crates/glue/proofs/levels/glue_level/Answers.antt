@@ -2,9 +2,9 @@
 use Rattle.glue.proofs.Climb.{first_rows, level_fails, level_next}
 use Rattle.glue.proofs.levels.glue_level.Goals as goal
 
-pub returns-in_default : goal.returns-in_default
-returns-in_default c =
-    let p = c.requires in level_fails _ _ _ _ _ _ p.3 p.4 c.in_default.ensures _
+pub returns-in_err-m : goal.returns-in_err-m
+returns-in_err-m c =
+    let p = c.requires in rw c.from_residual.ensures (level_fails _ _ _ _ _ _ p.3 p.4 c.in_err-m.ensures _)
 
 pub merge_rows-requires : goal.merge_rows-requires
 merge_rows-requires c =
@@ -12,5 +12,5 @@ merge_rows-requires c =
 
 pub returns : goal.returns
 returns c =
-    let p = c.requires in let w = c.or_else.result in level_next _ _ _ _ _ _ p.3 p.4 c.in-Label.m w c.in-Label.ensures c.or_else.ensures _
+    let p = c.requires in let w = c.or_else.result in level_next _ _ _ _ _ _ p.3 p.4 c.in_ok-m.m w c.in_ok-m.ensures c.or_else.ensures _
     c.merge_rows.ensures _ c.next_level.ensures

@@ -35,8 +35,8 @@ slice_bounds-glue_two-start-2 c =
     let y = c.operand-q.ensures a.parent.now a.label.now in
     (lent_fits _ _ c.requires.0 c.requires.1.0 _ c.link-a.ensures.0 _ _ x y).1
 
-pub glue_two-r-requires : goal.glue_two-r-requires
-glue_two-r-requires c =
+pub glue_two-built-requires : goal.glue_two-built-requires
+glue_two-built-requires c =
     let p = c.requires in let g = c.args in let x = c.operand-p.ensures g.parent.now g.label.now in
     let y = c.operand-q.ensures g.parent.now g.label.now in
     let a = c.link-a.ensures.0 in record { rows_fit = (lent_fits _ _ p.0 p.1.0 _ a _ _ x y).2; trees = lent_trees _ _ p.0 p.1.0 _ a _ _ x y p.1.1 }
@@ -45,5 +45,5 @@ pub returns : goal.returns
 returns c f e g q o₁ o₂ =
     let p = c.requires in let a = c.args in let x = c.operand-p.ensures a.parent.now a.label.now in
     let y = c.operand-q.ensures a.parent.now a.label.now in
-    let r = c.glue_two-r in lent_made _ _ p.0 p.1.0 _ c.link-a.ensures.0 _ _ x y (eqb a.sign 7) r.result r.new.parent r.new.label r.ensures e g (f e g)
+    let r = c.glue_two-built in lent_made _ _ p.0 p.1.0 _ c.link-a.ensures.0 _ _ x y (eqb a.sign 7) r.result r.new.parent r.new.label r.ensures e g (f e g)
     (binary_means a.sign q e g).1 o₁ o₂

@@ -13,4 +13,4 @@ bounds-label-v c = let e = c.link-u.ensures.0 in rw length-set (omega arith)
 
 pub returns : goal.returns
 returns c e q =
-    let u = c.link-u.ensures.0 in let p = c.requires in let s = c.shape.ensures in rw (← u) (laid_made _ _ c.link-u.result _ _ refl (omega (arith, u)) (omega (arith, u)) _ _ s.0 s.1 e (rw c.code_of.ensures (s.2 e q)))
+    let u = c.link-u.ensures.0 in let p = c.requires in let s = c.shape.ensures in rw (← u) (laid_made _ _ c.link-u.result _ _ refl (omega (arith, u)) (omega (arith, u)) _ _ refl s.0 e (rw c.code_of.ensures (s.1 e q)))
