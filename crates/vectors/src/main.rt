@@ -7,7 +7,6 @@ mod input;
 
 ghost use Rattle.std.specs.Prelude.{◌≤◌, IfOk};
 
-use call::{run_form, run_question};
 use input::{Damage, Input};
 use pathplus::{pathplus_minimal_image, pathplus_normal_form, pathplus_plain_image};
 use std::io;
@@ -20,6 +19,7 @@ const CORPUS: &[u8; 8] = b"GULPHCO1";
 const WORD: usize = 65536;
 
 // The line of a call that differs: its case, and its place there, from 1. Where the case is damaged, that is told instead.
+// `rt` stands beside the input, here and below: a struct of both is no plainer, with a lifetime for `rt` and `self.input` at each step.
 fn judge<P: Print, R>(
     rt: &P,
     input: &Input<R>,
@@ -43,16 +43,16 @@ fn run_calls<P: Print, R: Read>(
 ) -> io::Result<u64>
     ensures { IfOk result (λ n. n ≤ 4) }
 {
-    let plain = run_form(input, word, |word, room| pathplus_plain_image(word, room))?;
+    let plain = input.form(word, |word, room| pathplus_plain_image(word, room))?;
     judge(rt, input, case, 1, plain)?;
-    let minimal = run_form(input, word, |word, room| pathplus_minimal_image(word, room))?;
+    let minimal = input.form(word, |word, room| pathplus_minimal_image(word, room))?;
     judge(rt, input, case, 2, minimal)?;
-    let normal = run_form(input, word, |word, room| pathplus_normal_form(word, room))?;
+    let normal = input.form(word, |word, room| pathplus_normal_form(word, room))?;
     judge(rt, input, case, 3, normal)?;
     if input.number()? == 0 {
         return Ok(3);
     }
-    let question = run_question(input, word)?;
+    let question = input.question(word)?;
     judge(rt, input, case, 4, question)?;
     Ok(4)
 }
