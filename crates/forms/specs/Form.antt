@@ -6,15 +6,13 @@ use Rattle.meaning.specs.TreeQuery.{Query}
 use Rattle.meaning.specs.Tree.{Forest, Tag}
 use Rattle.meaning.specs.Image.{plain_image, minimal_image}
 use Rattle.meaning.specs.Normal.{normal, word_of, normal_form}
-use Rattle.meaning.specs.Word.{Outcome, refused, answered}
+use Rattle.meaning.specs.Word.{Outcome}
 use Rattle.meaning.specs.Promise.{fitting, length_of, room_after}
 use Rattle.rows.specs.Rows.{tree_rows}
 use Rattle.rows.specs.Table.{image_tree}
 use Rattle.image.specs.Listing.{listing}
 use Rattle.forms.specs.declared.Form.{Form}
 use Rattle.forms.specs.declared.Form.TheVariants.{Plain, Minimal, Normal}
-use Rattle.forms.specs.declared.Written.{Written}
-use Rattle.forms.specs.declared.Written.TheVariants.{Done, Refused}
 
 -- "plain image, minimal image, normal form"
 abbrev pub form_of : Form → Option Query → List ℕ
@@ -41,11 +39,6 @@ is_normal Normal = true
 -- the bytes of a form of n rows
 unfoldable pub bytes_of : Form → List ℕ → List ℕ → List ℕ → List ℕ → ℕ → List ℕ
 bytes_of form code mark kids span n = cond (is_normal form) (word_of (normal (tree_rows code mark span n))) (listing code mark kids n)
-
--- a writer: the length written, or a refusal
-abbrev pub written_of : Written → Outcome ℕ
-written_of (Done length) = answered length
-written_of (Refused number place) = refused number place
 
 -- the bytes stand in the front of the room, or are refused with 7 where they do not fit
 pub record Fitted (bytes room : List ℕ) (result : Outcome ℕ) (after : List ℕ) : Type 0 where

@@ -6,9 +6,11 @@ ghost use Rattle.std.specs.Prelude.{◌≡◌, ◌+◌, ◌≤◌, length};
 ghost use Rattle.groups.specs.Put.{Written as PutBytes};
 ghost use Rattle.forms.specs.Filled.{filled};
 ghost use Rattle.normal.specs.Forms.{QueryRows};
-ghost use Rattle.forms.specs.Form.{is_normal, bytes_of, written_of, Fitted};
+ghost use Rattle.limits.specs.Refusal.{outcome_of};
+ghost use Rattle.forms.specs.Form.{is_normal, bytes_of, Fitted};
 
-use limits::refusal::ROOM_TOO_SHORT;
+use limits::refusal::Refusal::RoomTooShort;
+use limits::refusal::Refused;
 use rows::{Codes, Links, Marks};
 
 // What is written of a tree.
@@ -17,13 +19,6 @@ pub enum Form {
     Plain,
     Minimal,
     Normal,
-}
-
-// A writer's answer: the length written, or the refusal's number and place.
-#[derive(Clone, Copy)]
-pub enum Written {
-    Done { length: usize },
-    Refused { number: u32, place: usize },
 }
 
 // "The caller's room together with the number of bytes already filled."
@@ -128,7 +123,7 @@ fn write(
     w.length
 }
 
-// The form of n rows in the front of the room, or refusal 7.
+// The form of n rows in the front of the room, and its length, or refusal 7.
 pub fn fit(
     room: &mut [u8],
     form: Form,
@@ -138,19 +133,14 @@ pub fn fit(
     span: &Links,
     up: &Links,
     n: usize,
-) -> Written
+) -> Result<usize, Refused>
     requires { QueryRows code.now mark.now kids.now span.now up.now n }
     ensures { Fitted (bytes_of form code.now mark.now kids.now span.now n)
-        room.old (written_of result) room.new }
+        room.old (outcome_of result) room.new }
 {
     let length = form_length(form, code, mark, kids, span, up, n);
     if room.len() < length {
-        return Written::Refused {
-            number: ROOM_TOO_SHORT,
-            place: length,
-        };
+        return Err(RoomTooShort.at(length));
     }
-    Written::Done {
-        length: write(room, form, code, mark, kids, span, up, n),
-    }
+    Ok(write(room, form, code, mark, kids, span, up, n))
 }

@@ -1,20 +1,41 @@
-// The refusal numbers: 1 to 6 are a word's own, in the order in which they are looked for; then come those of a call.
-pub const WORD_TOO_LONG: u32 = 1;
+// Why a word or a call is refused, and at which place.
+ghost use Rattle.std.specs.Prelude.{◌≡◌};
+ghost use Rattle.limits.specs.Refusal.{number_of};
 
-pub const BAD_NUMBER: u32 = 2;
+// The refusals: 1 to 6 are a word's own, in the order in which they are looked for; then come those of a call.
+#[derive(Clone, Copy, PartialEq, Eq)]
+pub enum Refusal {
+    WordTooLong = 1,
+    BadNumber = 2,
+    MissingOperand = 3,
+    TooManyPending = 4,
+    TooManySteps = 5,
+    NotOneOperand = 6,
+    RoomTooShort = 7,
+    BadTable = 8,
+    NoSuchNode = 9,
+    WorkspaceTooShort = 10,
+}
 
-pub const MISSING_OPERAND: u32 = 3;
+// A refusal and its place.
+#[derive(Clone, Copy, PartialEq, Eq)]
+pub struct Refused {
+    pub why: Refusal,
+    pub place: usize,
+}
 
-pub const TOO_MANY_PENDING: u32 = 4;
+impl Refusal {
+    // Its number in the table.
+    pub fn number(self) -> u32
+        ensures { result ≡ number_of self }
+    {
+        self as u32
+    }
 
-pub const TOO_MANY_STEPS: u32 = 5;
-
-pub const NOT_ONE_OPERAND: u32 = 6;
-
-pub const ROOM_TOO_SHORT: u32 = 7;
-
-pub const BAD_TABLE: u32 = 8;
-
-pub const NO_SUCH_NODE: u32 = 9;
-
-pub const WORKSPACE_TOO_SHORT: u32 = 10;
+    // This refusal, at a place.
+    pub fn at(self, place: usize) -> Refused
+        ensures { result ≡ record { why = self; place = place } }
+    {
+        Refused { why: self, place }
+    }
+}

@@ -1,5 +1,6 @@
 -- The ways out of the pair question: the word is refused, then the table, the nodes, the workspace; or yes or no is told.
 use mathlib.Core.Path.{◌≡◌, refl, sym, subst}
+use mathlib.Core.Logic.{◌⊎◌, inl, inr}
 use mathlib.Core.Bool.{Bool, true, false}
 use mathlib.Core.List.{List}
 use Prim.Native.Nat.{ℕ, ◌≤◌, ◌<◌}
@@ -30,13 +31,11 @@ module _ (q : Question) where
 
     module _ (t : good_table q.parents q.labels ≡ true) where
       -- refusal 9: m is not in the table, or n is not
-      pub selects_no_m : length q.parents ≤ q.m → Selected q (refused no_such_node 0) q.workspace
+      pub selects_no_node : (length q.parents ≤ q.m) ⊎ (q.m < length q.parents × (length q.parents ≤ q.n))
+          → Selected q (refused no_such_node 0) q.workspace
       unfolding Selected asked
-      selects_no_m l = rw (r, t, le-ltb q.m (length q.parents) l) (refl, refl)
-
-      pub selects_no_n : q.m < length q.parents → length q.parents ≤ q.n → Selected q (refused no_such_node 0) q.workspace
-      unfolding Selected asked
-      selects_no_n lm l = rw (r, t, lt-ltb q.m (length q.parents) lm, le-ltb q.n (length q.parents) l) (refl, refl)
+      selects_no_node (inl l) = rw (r, t, le-ltb q.m (length q.parents) l) (refl, refl)
+      selects_no_node (inr (lm, l)) = rw (r, t, lt-ltb q.m (length q.parents) lm, le-ltb q.n (length q.parents) l) (refl, refl)
 
       -- refusal 10
       pub selects_short : q.m < length q.parents → q.n < length q.parents → length q.workspace < table_bytes

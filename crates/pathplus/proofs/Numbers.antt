@@ -1,11 +1,15 @@
 -- What C is given fits into 64 bits: a refusal's number in the upper 32, its place or the answer in the lower 32.
-use mathlib.Core.Path.{◌≡◌, refl, sym, subst}
+use mathlib.Core.Path.{◌≡◌, refl, sym, ap, subst}
 use mathlib.Core.Bool.{Bool, true, false, ◌&&◌, cond}
 use mathlib.Core.List.{List}
 use Prim.Native.Nat.{ℕ, ◌≤◌}
 use native.Mathlib.Omega.{arith}
 use lib.ListN.{length}
 use lib.Dec.{ltb, leb}
+use Rattle.std.specs.Prelude.{Result, Ok, Err, MatchResult, IsOkAnd}
+use Rattle.std.specs.Int.{from_bool}
+use Rattle.limits.specs.declared.refusal.Refused.{Refused}
+use Rattle.limits.specs.Refusal.{outcome_of}
 use Rattle.meaning.specs.Expression.{Expr}
 use Rattle.meaning.specs.Gluing.{plain}
 use Rattle.meaning.specs.Limits.{room_too_short, bad_table, no_such_node, workspace_too_short}
@@ -61,3 +65,12 @@ short_selects q o after s = go (read_word q.word) (small_word q.word) s
     go : (x : Outcome Expr) → Small 6 4096 x → Replies q (and_then x (tabled q)) o after → Short (yes_of o)
     go (refused n p) (a, b) r = told (refused n p) (omega arith, omega arith) r
     go (answered e) l r = told (tabled q e) (small_tabled q e) r
+
+-- yes is given as 1 and no as 0
+pub yes_counted : (told : Result Bool Refused) (number : Result ℕ Refused)
+    → MatchResult told (λ b. IsOkAnd number (λ n. n ≡ from_bool b)) (λ refusal. number ≡ Err refusal)
+    → outcome_of number ≡ yes_of (outcome_of told)
+yes_counted (Ok true) (Ok n) e = ap answered e
+yes_counted (Ok false) (Ok n) e = ap answered e
+yes_counted (Ok b) (Err refusal) e = absurd e
+yes_counted (Err refusal) number e = ap outcome_of e

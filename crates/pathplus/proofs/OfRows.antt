@@ -19,8 +19,7 @@ use Rattle.rows.specs.Rows.{tree_rows}
 use Rattle.rows.specs.Table.{image_tree}
 use Rattle.rows.proofs.Rows.{size_rows}
 use Rattle.normal.specs.Forms.{QueryRows}
-use Rattle.word.specs.Answer.{checked_of, verdict}
-use Rattle.word.specs.declared.whole.Checked.{Checked}
+use Rattle.word.specs.Answer.{verdict}
 use Rattle.query.specs.Trees.{Accepted, RowsOf}
 use Rattle.forms.specs.declared.Form.{Form}
 use Rattle.forms.specs.declared.Form.TheVariants.{Plain, Minimal, Normal}
@@ -28,9 +27,8 @@ use Rattle.forms.specs.Form.{form_of, is_folded, form_tree, bytes_of}
 use Rattle.forms.proofs.Forms.{form_rows}
 
 -- a word that is told to be refused is refused so
-pub word_refused : (word : List ℕ) {checked : Checked} {n p : ℕ} → checked ≡ Checked.Refused n p → checked_of checked ≡ verdict (read_word word)
-    → read_word word ≡ refused n p
-word_refused word {n = n} {p = p} q v = go (read_word word) refl (sym (ap checked_of q) ∙ v)
+pub word_refused : (word : List ℕ) {n p : ℕ} → refused n p ≡ verdict (read_word word) → read_word word ≡ refused n p
+word_refused word {n} {p} v = go (read_word word) refl v
   where
     go : (o : Outcome Expr) → read_word word ≡ o → refused n p ≡ verdict o → read_word word ≡ refused n p
     go (refused n' p') r e = r ∙ (let a : n' ≡ n = cc in let b : p' ≡ p = cc in λ i. refused (a i) (b i))

@@ -1,5 +1,5 @@
 -- "That no second answer fits is itself a proved statement", for each public call and the answers that it gives.
-use mathlib.Core.Path.{◌≡◌, refl, sym, ap, ◌∙◌}
+use mathlib.Core.Path.{◌≡◌, sym, ap, ◌∙◌}
 use mathlib.Core.Option.{Option}
 use mathlib.Core.List.{List}
 use Prim.Native.Nat.{ℕ}
@@ -7,48 +7,35 @@ use Rattle.meaning.specs.TreeQuery.{Query}
 use Rattle.meaning.specs.Promise.{Writes, Question, Selected, PlainImage, MinimalImage, NormalForm}
 use Rattle.theory.proofs.Once.{Bytes}
 use Rattle.theory.proofs.Promise.{one_writing, one_reply}
-use Rattle.theory.proofs.Look.{never}
-use Rattle.forms.specs.declared.Written.{Written}
-use Rattle.forms.specs.Form.{written_of}
-use Rattle.forms.proofs.Unique.{written_same}
-use Rattle.pathplus.specs.declared.Told.{Told}
-use Rattle.pathplus.specs.Answer.{told_of, number_of, yes_of, WritesC, SelectedC}
-
--- an answer is what it stands for
-told_same : (r r' : Told) → told_of r ≡ told_of r' → r ≡ r'
-told_same Told.Yes Told.Yes e = refl
-told_same Told.Yes Told.No e = never cc
-told_same Told.Yes (Told.Refused n p) e = never cc
-told_same Told.No Told.Yes e = never cc
-told_same Told.No Told.No e = refl
-told_same Told.No (Told.Refused n p) e = never cc
-told_same (Told.Refused n p) Told.Yes e = never cc
-told_same (Told.Refused n p) Told.No e = never cc
-told_same (Told.Refused n p) (Told.Refused n' p') e = let a : n ≡ n' = cc in let b : p ≡ p' = cc in λ i. Told.Refused (a i) (b i)
+use Rattle.std.specs.Prelude.{Bool, Result}
+use Rattle.limits.specs.declared.refusal.Refused.{Refused}
+use Rattle.limits.specs.Refusal.{outcome_of}
+use Rattle.limits.proofs.Unique.{outcome_same}
+use Rattle.pathplus.specs.Answer.{number_of, yes_of, WritesC, SelectedC}
 
 -- ------------------------------------------------------------------ the calls
 -- the form of a word
-pub writer_unique : (form : Option Query → List ℕ) (word room : List ℕ) (r r' : Written) (a a' : List ℕ)
-    → Writes form word room (written_of r) a → Writes form word room (written_of r') a' → (r ≡ r') × (a ≡ a')
+pub writer_unique : (form : Option Query → List ℕ) (word room : List ℕ) (r r' : Result ℕ Refused) (a a' : List ℕ)
+    → Writes form word room (outcome_of r) a → Writes form word room (outcome_of r') a' → (r ≡ r') × (a ≡ a')
 writer_unique form word room r r' a a' w w' =
-    let u = one_writing form word room (written_of r) (written_of r') a a' w w' in (written_same r r' u.0, u.1)
+    let u = one_writing form word room (outcome_of r) (outcome_of r') a a' w w' in (outcome_same r r' u.0, u.1)
 
-pub plain_image_unique : (word room : List ℕ) (r r' : Written) (a a' : List ℕ)
-    → PlainImage word room (written_of r) a → PlainImage word room (written_of r') a' → (r ≡ r') × (a ≡ a')
+pub plain_image_unique : (word room : List ℕ) (r r' : Result ℕ Refused) (a a' : List ℕ)
+    → PlainImage word room (outcome_of r) a → PlainImage word room (outcome_of r') a' → (r ≡ r') × (a ≡ a')
 plain_image_unique = writer_unique _
 
-pub minimal_image_unique : (word room : List ℕ) (r r' : Written) (a a' : List ℕ)
-    → MinimalImage word room (written_of r) a → MinimalImage word room (written_of r') a' → (r ≡ r') × (a ≡ a')
+pub minimal_image_unique : (word room : List ℕ) (r r' : Result ℕ Refused) (a a' : List ℕ)
+    → MinimalImage word room (outcome_of r) a → MinimalImage word room (outcome_of r') a' → (r ≡ r') × (a ≡ a')
 minimal_image_unique = writer_unique _
 
-pub normal_form_unique : (word room : List ℕ) (r r' : Written) (a a' : List ℕ)
-    → NormalForm word room (written_of r) a → NormalForm word room (written_of r') a' → (r ≡ r') × (a ≡ a')
+pub normal_form_unique : (word room : List ℕ) (r r' : Result ℕ Refused) (a a' : List ℕ)
+    → NormalForm word room (outcome_of r) a → NormalForm word room (outcome_of r') a' → (r ≡ r') × (a ≡ a')
 normal_form_unique = writer_unique _
 
 -- the workspace holds bytes, before and after
-pub selects_unique : (q : Question) (r r' : Told) (a a' : List ℕ) → Bytes a → Bytes a' → Selected q (told_of r) a → Selected q (told_of r') a'
+pub selects_unique : (q : Question) (r r' : Result Bool Refused) (a a' : List ℕ) → Bytes a → Bytes a' → Selected q (outcome_of r) a → Selected q (outcome_of r') a'
     → (r ≡ r') × (a ≡ a')
-selects_unique q r r' a a' b b' s s' = let u = one_reply q (told_of r) (told_of r') a a' b b' s s' in (told_same r r' u.0, u.1)
+selects_unique q r r' a a' b b' s s' = let u = one_reply q (outcome_of r) (outcome_of r') a a' b b' s s' in (outcome_same r r' u.0, u.1)
 
 -- ------------------------------------------------------------------ the numbers that C is given
 pub writes_c_unique : (form : Option Query → List ℕ) (word room : List ℕ) (r r' : ℕ) (a a' : List ℕ)

@@ -1,16 +1,9 @@
--- What each answer of the public calls stands for: 01's number and values for each case, and the numbers that C is given. A writer's stands in forms.
+-- What the pair question is handed, and the numbers that C is given. What each answer of the public calls stands for is `outcome_of` (limits).
 use Rattle.std.specs.Prelude.{◌≡◌, Bool, true, false, List, ℕ, ◌+◌, ◌*◌, ◌<◌}
 use Rattle.std.proofs.Math.Option.{Option}
 use Rattle.meaning.specs.TreeQuery.{Query}
 use Rattle.meaning.specs.Word.{Outcome, refused, answered}
 use Rattle.meaning.specs.Promise.{Writes, Question, Selected}
-use Rattle.pathplus.specs.declared.Told.{Told}
-
--- the pair question: yes or no, or a refusal
-abbrev pub told_of : Told → Outcome Bool
-told_of Told.Yes = answered true
-told_of Told.No = answered false
-told_of (Told.Refused number place) = refused number place
 
 -- what the pair question is handed
 abbrev pub question : List ℕ → List ℕ → List ℕ → ℕ → ℕ → List ℕ → Question

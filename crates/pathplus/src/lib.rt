@@ -9,14 +9,7 @@ mod writers; // writers.rt: the images and the normal form of a word
 pub use entries::{
     pathplus_minimal_image, pathplus_normal_form, pathplus_plain_image, pathplus_selects,
 };
-pub use forms::{Form, Written};
+pub use forms::Form;
+pub use limits::refusal::{Refusal, Refused};
 pub use question::selects;
 pub use writers::{minimal_image, normal_form, plain_image, written};
-
-// The pair question's answer: yes or no, or the refusal's number and place.
-#[derive(Clone, Copy)]
-pub enum Told {
-    Yes,
-    No,
-    Refused { number: u32, place: usize },
-}

@@ -2,16 +2,18 @@
 // workspace's first 32,768 bytes.
 ghost use Rattle.meaning.specs.Matching.{doc_of};
 ghost use Rattle.meaning.specs.Promise.{Selected};
+ghost use Rattle.meaning.specs.Word.{answered};
+ghost use Rattle.limits.specs.Refusal.{outcome_of};
 ghost use Rattle.query.specs.Trees.{Accepted};
 ghost use Rattle.rows.specs.Rows.{tree_rows};
-ghost use Rattle.pathplus.specs.Answer.{told_of, question};
+ghost use Rattle.pathplus.specs.Answer.{question};
 ghost use Rattle.pathplus.specs.Pair.{NotRefused, RowsAsked, Taken};
 
-use crate::Told;
 use limits::most::MOST_NODES;
-use limits::refusal::{BAD_TABLE, NO_SUCH_NODE, WORKSPACE_TOO_SHORT};
+use limits::refusal::Refusal::{BadTable, NoSuchNode, WorkspaceTooShort};
+use limits::refusal::Refused;
 use rows::{Codes, Links, Marks};
-use word::whole::{Checked, check_word};
+use word::whole::check_word;
 
 // The bytes of the match table: 256 rows of 128 bytes.
 const TABLE_BYTES: usize = 32768;
@@ -49,10 +51,10 @@ fn tell(
     m: usize,
     n: usize,
     workspace: &mut [u8],
-) -> Told
+) -> bool
     requires { Accepted word.now × NotRefused parents.now labels.now m n workspace.old }
     ensures { Selected (question word.now parents.now labels.now m n workspace.old)
-        (told_of result) workspace.new }
+        (answered result) workspace.new }
 {
     let mut code = [0u32; MOST_NODES];
     let mut mark = [0u8; MOST_NODES];
@@ -62,46 +64,35 @@ fn tell(
     let rows = query::word_rows(
         true, word, &mut code, &mut mark, &mut kids, &mut span, &mut up,
     );
-    if taken(
+    taken(
         &code, &mark, &span, &up, rows, parents, labels, m, n, workspace,
-    ) {
-        return Told::Yes;
-    }
-    Told::No
+    )
 }
 
 // The pair question of an accepted word: refusals 8, 9 and 10.
-fn ask(word: &[u8], parents: &[u32], labels: &[u32], m: u64, n: u64, workspace: &mut [u8]) -> Told
+fn ask(
+    word: &[u8],
+    parents: &[u32],
+    labels: &[u32],
+    m: u64,
+    n: u64,
+    workspace: &mut [u8],
+) -> Result<bool, Refused>
     requires { Accepted word.now }
     ensures { Selected (question word.now parents.now labels.now m n workspace.old)
-        (told_of result) workspace.new }
+        (outcome_of result) workspace.new }
 {
     if !document::table::good_table(parents, labels) {
-        return Told::Refused {
-            number: BAD_TABLE,
-            place: 0,
-        };
+        return Err(BadTable.at(0));
     }
     let nodes = parents.len() as u64;
-    if nodes <= m {
-        return Told::Refused {
-            number: NO_SUCH_NODE,
-            place: 0,
-        };
-    }
-    if nodes <= n {
-        return Told::Refused {
-            number: NO_SUCH_NODE,
-            place: 0,
-        };
+    if nodes <= m || nodes <= n {
+        return Err(NoSuchNode.at(0));
     }
     if workspace.len() < TABLE_BYTES {
-        return Told::Refused {
-            number: WORKSPACE_TOO_SHORT,
-            place: TABLE_BYTES,
-        };
+        return Err(WorkspaceTooShort.at(TABLE_BYTES));
     }
-    tell(word, parents, labels, m as usize, n as usize, workspace)
+    Ok(tell(word, parents, labels, m as usize, n as usize, workspace))
 }
 
 // Whether a word selects the pair (m,n) on the document of a table.
@@ -112,12 +103,10 @@ pub fn selects(
     m: u64,
     n: u64,
     workspace: &mut [u8],
-) -> Told
+) -> Result<bool, Refused>
     ensures { Selected (question word.now parents.now labels.now m n workspace.old)
-        (told_of result) workspace.new }
+        (outcome_of result) workspace.new }
 {
-    match check_word(word) {
-        Checked::Refused { number, place } => Told::Refused { number, place },
-        Checked::Accepted => ask(word, parents, labels, m, n, workspace),
-    }
+    check_word(word)?;
+    ask(word, parents, labels, m, n, workspace)
 }

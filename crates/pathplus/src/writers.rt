@@ -2,11 +2,13 @@
 ghost use Rattle.std.specs.Prelude.{◌≡◌};
 ghost use Rattle.meaning.specs.Promise.{Writes, PlainImage, MinimalImage, NormalForm};
 ghost use Rattle.query.specs.Trees.{Accepted};
-ghost use Rattle.forms.specs.Form.{form_of, is_folded, written_of};
+ghost use Rattle.limits.specs.Refusal.{outcome_of};
+ghost use Rattle.forms.specs.Form.{form_of, is_folded};
 
-use forms::{Form, Written};
+use forms::Form;
 use limits::most::MOST_NODES;
-use word::whole::{Checked, check_word};
+use limits::refusal::Refused;
+use word::whole::check_word;
 
 // Whether the form is of the minimal tree.
 fn is_folded(form: Form) -> bool
@@ -20,9 +22,9 @@ fn is_folded(form: Form) -> bool
 }
 
 // The form of an accepted word.
-fn write_accepted(form: Form, word: &[u8], room: &mut [u8]) -> Written
+fn write_accepted(form: Form, word: &[u8], room: &mut [u8]) -> Result<usize, Refused>
     requires { Accepted word.now }
-    ensures { Writes (form_of form) word.now room.old (written_of result) room.new }
+    ensures { Writes (form_of form) word.now room.old (outcome_of result) room.new }
 {
     let mut code = [0u32; MOST_NODES];
     let mut mark = [0u8; MOST_NODES];
@@ -42,32 +44,30 @@ fn write_accepted(form: Form, word: &[u8], room: &mut [u8]) -> Written
 }
 
 // The form of a word.
-pub fn written(form: Form, word: &[u8], room: &mut [u8]) -> Written
-    ensures { Writes (form_of form) word.now room.old (written_of result) room.new }
+pub fn written(form: Form, word: &[u8], room: &mut [u8]) -> Result<usize, Refused>
+    ensures { Writes (form_of form) word.now room.old (outcome_of result) room.new }
 {
-    match check_word(word) {
-        Checked::Refused { number, place } => Written::Refused { number, place },
-        Checked::Accepted => write_accepted(form, word, room),
-    }
+    check_word(word)?;
+    write_accepted(form, word, room)
 }
 
 // The plain tree image of a word.
-pub fn plain_image(word: &[u8], room: &mut [u8]) -> Written
-    ensures { PlainImage word.now room.old (written_of result) room.new }
+pub fn plain_image(word: &[u8], room: &mut [u8]) -> Result<usize, Refused>
+    ensures { PlainImage word.now room.old (outcome_of result) room.new }
 {
     written(Form::Plain, word, room)
 }
 
 // The minimal tree image of a word.
-pub fn minimal_image(word: &[u8], room: &mut [u8]) -> Written
-    ensures { MinimalImage word.now room.old (written_of result) room.new }
+pub fn minimal_image(word: &[u8], room: &mut [u8]) -> Result<usize, Refused>
+    ensures { MinimalImage word.now room.old (outcome_of result) room.new }
 {
     written(Form::Minimal, word, room)
 }
 
 // The normal form of a word.
-pub fn normal_form(word: &[u8], room: &mut [u8]) -> Written
-    ensures { NormalForm word.now room.old (written_of result) room.new }
+pub fn normal_form(word: &[u8], room: &mut [u8]) -> Result<usize, Refused>
+    ensures { NormalForm word.now room.old (outcome_of result) room.new }
 {
     written(Form::Normal, word, room)
 }

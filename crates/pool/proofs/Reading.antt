@@ -6,16 +6,14 @@ use Prim.Native.Nat.{ℕ, ◌+◌, ◌≤◌, ◌<◌}
 use native.Mathlib.Omega.{arith}
 use lib.ListN.{length, get_or, set, length-set}
 use lib.Seq.{get_or-set_same}
+use Rattle.std.specs.Prelude.{Option, Some, None, IsSome}
 use Rattle.meaning.specs.Expression.{Expr}
 use Rattle.meaning.specs.Limits.{most_pending}
 use Rattle.meaning.specs.Number.{read_number}
 use Rattle.meaning.specs.Gluing.{plain}
 use Rattle.meaning.specs.Word.{answered, and_then, Pending, read_word}
-use Rattle.theory.proofs.Look.{never}
 use Rattle.word.specs.Answer.{got_of}
 use Rattle.word.specs.declared.number.Read.{Read}
-use Rattle.word.specs.declared.number.Read.TheVariants.{Number, Broken}
-use Rattle.word.specs.Cursor.{place_past}
 use Rattle.word.proofs.Numbers.{number_at}
 use Rattle.word.proofs.Run.{run_from, nothing_pending}
 use Rattle.word.proofs.Accepted.{accepted_start, accepted_end, accepted_number, accepted_sign}
@@ -32,13 +30,6 @@ pub record Reading (w : List ℕ) (p : Pool) (n at : ℕ) : Type 0 where
   pub st : Pending
   pub rest : run_from w at st ≡ answered e
   pub holds : PoolFor p n st
-
--- a number that was read is no broken one, and one alone
-pub number_broken : {sign next : ℕ} → Number sign next ≡ Broken → ⊥
-number_broken e = never cc
-
-pub number_same : {sign next sign' next' : ℕ} → Number sign next ≡ Number sign' next' → sign ≡ sign'
-number_same e = cc
 
 -- before the first sign
 pub holds_start : (P L F S D : List ℕ)
@@ -69,18 +60,21 @@ pub reading_start : (w : List ℕ) (p : Pool) → ((e : Expr) × (read_word w �
 reading_start w p ((e, q), h) = record { e = e; word = q; st = nothing_pending; rest = accepted_start w q; holds = h }
 
 module _ (w : List ℕ) (p : Pool) (n at : ℕ) (d : Reading w p n at) where
-  -- no sign of an accepted word is refused
-  pub reading_passes : at < length w → {r : Read} → got_of at r ≡ read_number w at → (sign next : ℕ) → r ≡ Number sign next → Passes p n sign
-  reading_passes lt g sign next e = let (st', t, rest) = accepted_sign w at d.st d.rest lt (number_at w at g e) in (d.st, st', at, d.holds, t)
+  module _ (lt : at < length w) where
+    -- no number of an accepted word is broken
+    pub reading_some : (r : Option Read) → got_of at r ≡ read_number w at → IsSome r
+    reading_some (Some read) g = refl
+    reading_some None g = absurd (accepted_number w at d.st d.rest lt (sym g))
 
-  -- and no number is broken: the place moves
-  pub reading_next : at < length w → (r : Read) → got_of at r ≡ read_number w at → (p' : Pool) (n' : ℕ) → ((sign next : ℕ) → r ≡ Number sign next → Applies p n sign p' n')
-      → Reading w p' n' (place_past at r) × (at < place_past at r)
-  reading_next lt (Number sign next) g p' n' f =
-      let number = number_at w at g refl in
-      let (st', t, rest) = accepted_sign w at d.st d.rest lt number in
-      (record { e = d.e; word = d.word; st = st'; rest = rest; holds = f sign next refl d.st st' at d.holds t }, number.moved)
-  reading_next lt Broken g p' n' f = absurd (accepted_number w at d.st d.rest lt (sym g))
+    module _ (read : Read) (g : got_of at (Some read) ≡ read_number w at) where
+      -- no sign of an accepted word is refused
+      pub reading_passes : Passes p n read.value
+      reading_passes = let (st', t, rest) = accepted_sign w at d.st d.rest lt (number_at w at g) in (d.st, st', at, d.holds, t)
+
+      pub reading_next : {p' : Pool} {n' : ℕ} → Applies p n read.value p' n' → Reading w p' n' read.next
+      reading_next f =
+          let (st', t, rest) = accepted_sign w at d.st d.rest lt (number_at w at g) in
+          record { e = d.e; word = d.word; st = st'; rest = rest; holds = f d.st st' at d.holds t }
 
   pub reading_last : length w ≤ at → (e : Expr) × (read_word w ≡ answered e) × PoolForOnly p e
   reading_last le =

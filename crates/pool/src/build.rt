@@ -1,10 +1,9 @@
 // The plain tree query of an accepted word: sign by sign, with the same number reader as the check of the word.
-ghost use Rattle.std.specs.Prelude.{◌≡◌, ℕ, ◌≤◌, ◌<◌, length};
+ghost use Rattle.std.specs.Prelude.{◌≡◌, ◌≤◌, ◌<◌, length};
 ghost use Rattle.meaning.specs.Expression.{Expr};
 ghost use Rattle.meaning.specs.Gluing.{plain};
 ghost use Rattle.meaning.specs.Limits.{most_pending};
 ghost use Rattle.meaning.specs.Word.{answered, and_then, read_word};
-ghost use Rattle.word.specs.declared.number.Read.TheVariants.{Number};
 ghost use Rattle.glue.specs.Rows.{pool_rows};
 ghost use Rattle.glue.specs.Trees.{built_of};
 ghost use Rattle.pool.specs.Pool.{pool, Passes, Applies, PoolForNone, PoolForOnly};
@@ -12,35 +11,30 @@ ghost use Rattle.pool.specs.Pool.{pool, Passes, Applies, PoolForNone, PoolForOnl
 use crate::operand::{make, operand, put_latest};
 use glue::trees::Built;
 use word::cursor::{Cursor, read_sign};
-use word::number::Read;
 
 // The rows of the pool: an operand has at most one more than it has steps, so 255 steps and 256 pending operands use 511.
 pub const POOL_ROWS: usize = 512;
 
-// What was read where the next sign stands; gives the number of operands that are pending then. No number of an accepted word is broken.
-fn apply_read(
+// One sign of an accepted word; gives the number of operands that are pending after it.
+fn apply_sign(
     parent: &mut [u16],
     label: &mut [u32],
     first: &mut [u16],
     s: &mut [u16],
     d: &mut [u16],
     pending: usize,
-    read: Read,
+    sign: u32,
 ) -> usize
-    requires { (sign next : ℕ) → read ≡ Number sign next → Passes (pool parent.old label.old first.old s.old d.old) pending sign }
-    ensures { (sign next : ℕ) → read ≡ Number sign next
-        → Applies (pool parent.old label.old first.old s.old d.old) pending sign
+    requires { Passes (pool parent.old label.old first.old s.old d.old) pending sign }
+    ensures { Applies (pool parent.old label.old first.old s.old d.old) pending sign
         (pool parent.new label.new first.new s.new d.new) result }
 {
-    let Read::Number { value, next: _ } = read else {
-        return pending;
-    };
-    let latest = make(parent, label, first, s, d, pending, value);
+    let latest = make(parent, label, first, s, d, pending, sign);
     put_latest(first, s, d, latest)
 }
 
 // "One reading place moves through the word, sign by sign": one cursor, lent to the number reader for each sign.
-// After the last sign of an accepted word its expression alone is pending.
+// No number of an accepted word is broken. After the last sign its expression alone is pending.
 fn apply_signs(
     word: &[u8],
     parent: &mut [u16],
@@ -53,12 +47,11 @@ fn apply_signs(
     ensures { (e : Expr) × (read_word word.now ≡ answered e)
         × PoolForOnly (pool parent.new label.new first.new s.new d.new) e }
 {
-    let end = word.len();
     let mut cursor = Cursor { at: 0 };
     let mut pending: usize = 0;
-    while cursor.at < end {
-        let read = read_sign(&mut cursor, word);
-        pending = apply_read(parent, label, first, s, d, pending, read);
+    while cursor.at < word.len() {
+        let read = read_sign(&mut cursor, word).unwrap();
+        pending = apply_sign(parent, label, first, s, d, pending, read.value);
     }
 }
 

@@ -1,35 +1,34 @@
 -- The text of a refused word is one line. Of an accepted word no form is refused into 2,048 bytes, and the text is their three lines.
-use mathlib.Core.Path.{◌≡◌, sym, ap, ◌∙◌}
+use mathlib.Core.Path.{◌≡◌, refl, sym, ap, ◌∙◌}
 use mathlib.Core.List.{List, ◌++◌}
 use Prim.Native.Nat.{ℕ, ◌+◌, ◌≤◌}
 use native.Mathlib.Omega.{arith}
 use lib.ListN.{length, take, drop, length-append}
 use lib.Seq.{take_at}
 use borrow.Author.Tests.{le-ltb}
+use Rattle.std.specs.Prelude.{Result, Ok, Err, IsOk}
 use Rattle.meaning.specs.Expression.{Expr}
 use Rattle.meaning.specs.Gluing.{plain}
-use Rattle.meaning.specs.Word.{answered, read_word}
+use Rattle.meaning.specs.Word.{refused, answered, read_word}
 use Rattle.meaning.specs.Promise.{written, length_of, room_after, Writes}
 use Rattle.meaning.specs.Program.{line, plain_name, minimal_name, normal_name, refusal_line, reported, program_text}
-use Rattle.word.specs.Answer.{checked_of, verdict}
-use Rattle.word.specs.declared.whole.Checked.{Checked}
+use Rattle.limits.specs.declared.refusal.Refused.{Refused}
+use Rattle.limits.specs.Refusal.{outcome_of}
+use Rattle.word.specs.Answer.{verdict}
 use Rattle.groups.specs.Put.{Written}
 use Rattle.groups.proofs.Put.{written_is, written_then}
 use Rattle.forms.specs.declared.Form.{Form}
 use Rattle.forms.specs.declared.Form.TheVariants.{Plain, Minimal, Normal}
-use Rattle.forms.specs.declared.Written as Answer
-use Rattle.forms.specs.declared.Written.TheVariants.{Done, Refused}
-use Rattle.forms.specs.Form.{form_of, written_of}
+use Rattle.forms.specs.Form.{form_of}
 use Rattle.forms.proofs.Forms.{form_short}
 use Rattle.pathplus.proofs.OfRows.{word_refused}
 use Rattle.theory.proofs.Look.{never}
 use Rattle.report.specs.Form.{of_read, form_bytes}
 
 -- "A refusal is one line"
-pub refused_text : (word : List ℕ) {checked : Checked} {n p : ℕ} → checked ≡ Checked.Refused n p → checked_of checked ≡ verdict (read_word word)
-    → program_text word ≡ refusal_line n p
+pub refused_text : (word : List ℕ) {n p : ℕ} → refused n p ≡ verdict (read_word word) → program_text word ≡ refusal_line n p
 unfolding program_text
-refused_text word q v = ap reported (word_refused word q v)
+refused_text word v = ap reported (word_refused word v)
 
 -- an accepted word
 module _ (word : List ℕ) (e : Expr) (r : read_word word ≡ answered e) where
@@ -58,17 +57,17 @@ module _ (word : List ℕ) (e : Expr) (r : read_word word ≡ answered e) where
   unfolding written
   form_fits form room le = rw (r, le-ltb (length room) (length (form_of form (plain e))) (omega (arith, form_short form word e r)))
 
-  module _ (form : Form) {room after : List ℕ} {w : Answer.Written} where
-    pub form_not_refused : {n p : ℕ} → w ≡ Refused n p → Writes (form_of form) word room (written_of w) after → 2048 ≤ length room → ⊥
-    form_not_refused q W le = never (cc (W.returned, ap length_of (form_fits form room le), ap written_of q))
+  module _ (form : Form) {room after : List ℕ} (le : 2048 ≤ length room) where
+    pub form_not_refused : (r : Result ℕ Refused) → Writes (form_of form) word room (outcome_of r) after → IsOk r
+    form_not_refused (Ok k) W = refl
+    form_not_refused (Err refusal) W = never (cc (W.returned, ap length_of (form_fits form room le)))
 
     -- the first k bytes of the room are the form
-    pub form_answered : {k : ℕ} → w ≡ Done k → Writes (form_of form) word room (written_of w) after → 2048 ≤ length room
-        → (k ≤ 2048) × (take k after ≡ form_bytes form word)
-    form_answered {k} q W le =
+    pub form_answered : {k : ℕ} → Writes (form_of form) word room (answered k) after → (k ≤ 2048) × (take k after ≡ form_bytes form word)
+    form_answered {k} W =
         let bytes = form_of form (plain e) in
         let f = form_fits form room le in
-        let z : k ≡ length bytes = cc (W.returned, ap length_of f, ap written_of q) in (
+        let z : k ≡ length bytes = cc (W.returned, ap length_of f) in (
           omega (arith, form_short form word e r),
           ap (take k) (W.left ∙ ap (room_after room) f) ∙ take_at bytes (drop (length bytes) room) k (sym z) ∙ sym (form_bytes_lem form),
         )

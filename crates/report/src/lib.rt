@@ -4,13 +4,15 @@
 
 ghost use Rattle.std.specs.Prelude.{◌≡◌, [], ◌∷◌, ◌+◌, ◌≤◌, ◌<◌, length};
 ghost use Rattle.meaning.specs.Program.{hex_digit, hex, decimal, line, refusal_line, program_text};
+ghost use Rattle.limits.specs.Refusal.{number_of};
 ghost use Rattle.groups.specs.Put.{Written as PutBytes};
 ghost use Rattle.query.specs.Trees.{Accepted};
 ghost use Rattle.report.specs.Form.{form_bytes};
 
-use forms::{Form, Written};
+use forms::Form;
 use groups::put_byte;
-use word::whole::{Checked, check_word};
+use limits::refusal::Refused;
+use word::whole::check_word;
 
 // No image and no normal form has more bytes.
 const LONGEST: usize = 2048;
@@ -90,9 +92,7 @@ fn put_line(form: Form, name: &[u8], word: &[u8], text: &mut [u8], at: usize) ->
     ensures { PutBytes text.old at (line name.now (form_bytes form word.now)) text.new result }
 {
     let mut room = [0u8; LONGEST];
-    let Written::Done { length } = pathplus::written(form, word, &mut room) else {
-        return at;
-    };
+    let length = pathplus::written(form, word, &mut room).unwrap();
     let answer = &room[..length];
     put_named(name, answer, text, at)
 }
@@ -108,14 +108,15 @@ fn put_lines(word: &[u8], text: &mut [u8]) -> usize
 }
 
 // "`refused N P`, number and place in decimal"
-fn put_refusal(number: usize, place: usize, text: &mut [u8]) -> usize
-    requires { length (refusal_line number place) ≤ length text.old }
-    ensures { PutBytes text.old 0 (refusal_line number place) text.new result }
+fn put_refusal(refused: Refused, text: &mut [u8]) -> usize
+    requires { length (refusal_line (number_of refused.why) refused.place) ≤ length text.old }
+    ensures { PutBytes text.old 0 (refusal_line (number_of refused.why) refused.place) text.new result }
 {
+    let number = refused.why.number() as usize;
     let first = put_bytes(b"refused ", text, 0);
     let blank = put_decimal(number, text, first);
     let second = put_byte(text, blank, b' ');
-    let end = put_decimal(place, text, second);
+    let end = put_decimal(refused.place, text, second);
     put_byte(text, end, b'\n')
 }
 
@@ -124,7 +125,7 @@ pub fn program_text(word: &[u8], text: &mut [u8; LONGEST_TEXT]) -> usize
     ensures { PutBytes text.old 0 (program_text word.now) text.new result }
 {
     match check_word(word) {
-        Checked::Refused { number, place } => put_refusal(number as usize, place, text),
-        Checked::Accepted => put_lines(word, text),
+        Err(refused) => put_refusal(refused, text),
+        Ok(()) => put_lines(word, text),
     }
 }

@@ -3,11 +3,11 @@ use mathlib.Core.Path.{◌≡◌, sym}
 use mathlib.Core.List.{List}
 use Prim.Native.Nat.{ℕ, ◌+◌, ◌-◌, ◌<◌}
 use native.Mathlib.Omega.{arith}
+use Rattle.std.specs.Prelude.{Some}
 use Rattle.meaning.specs.Number.{got, largest_sign, read_up_to, read_number}
 use Rattle.theory.proofs.Reread.{read_back}
 use Rattle.word.specs.Answer.{got_of}
 use Rattle.word.specs.declared.number.Read.{Read}
-use Rattle.word.specs.declared.number.Read.TheVariants.{Number}
 
 -- a number that was read moves the place, whatever the largest number is
 pub read_moves : (top : ℕ) (w : List ℕ) (at v next : ℕ) → got v (next - at) ≡ read_up_to top w at → at < next
@@ -21,8 +21,8 @@ pub record NumberAt (w : List ℕ) (at v next : ℕ) : Type 0 where
   pub moved : at < next
 
 -- what the reader's answer tells its caller
-pub number_at : (w : List ℕ) (at : ℕ) {r : Read} {v next : ℕ} → got_of at r ≡ read_number w at → r ≡ Number v next → NumberAt w at v next
+pub number_at : (w : List ℕ) (at : ℕ) {read : Read} → got_of at (Some read) ≡ read_number w at → NumberAt w at read.value read.next
 unfolding read_number
-number_at w at {r} {v} {next} e q =
-    let l = read_moves largest_sign w at v next (rw q at e) in
-    record { bytes = next - at; read = sym (rw q at e); behind = omega arith; moved = l }
+number_at w at {read} e =
+    let l = read_moves largest_sign w at read.value read.next e in
+    record { bytes = read.next - at; read = sym e; behind = omega arith; moved = l }

@@ -81,13 +81,13 @@ module _ (top : ℕ) (w : List ℕ) (at value weight next : ℕ) (r : Reading w 
     pub reading_zero : b ≡ 0 → 1 < weight → broken ≡ read_up_to top w at
     reading_zero z l = rw (r.whole, groups_last w next (eqb weight 1) b e h (omega arith), ne_eqb weight 1 (λ q. omega arith), z)
 
-    module _ (l : b < 128) (k : (weight ≤ 1) ⊎ (b ≡ 0 → ⊥)) where
+    module _ (l : b < 128) (k : ((b ≡ 0) × (weight ≤ 1)) ⊎ (b ≡ 0 → ⊥)) where
       whole_last : read_up_to top w at ≡ not_above top (got (value + b * weight) (next - at + 1))
       whole_last =
           rw (
             r.whole,
             groups_last w next (eqb weight 1) b e h l,
-            lone_fits (eqb weight 1) b (λ f. ⊎_elim (λ q z. eqb-false weight 1 f (omega arith)) (λ q. q) k),
+            lone_fits (eqb weight 1) b (λ f. ⊎_elim (λ q z. eqb-false weight 1 f (omega (arith, q.1))) (λ q. q) k),
           )
 
       pub reading_last : value + b * weight ≤ top → got (value + b * weight) (next + 1 - at) ≡ read_up_to top w at

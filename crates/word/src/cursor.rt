@@ -12,24 +12,12 @@ pub struct Cursor {
     pub at: usize,
 }
 
-// The place after what was read at `at`; no number that can be read, no move.
-fn past(read: Read, at: usize) -> usize
-    ensures { result ≡ place_past at read }
-{
-    match read {
-        Read::Number { value: _, next } => next,
-        Read::Broken => at,
-    }
-}
-
-// The number where the cursor stands; the cursor moves past it.
-pub fn read_sign<'c, 'a>(cursor: &'c mut Cursor, word: &'a [u8]) -> Read
+// The number where the cursor stands; the cursor moves past it. No number that can be read, no move.
+pub fn read_sign<'c, 'a>(cursor: &'c mut Cursor, word: &'a [u8]) -> Option<Read>
     ensures { (got_of cursor.old.at result ≡ read_number word.now cursor.old.at)
         × (cursor.new.at ≡ place_past cursor.old.at result) }
 {
-    let at = cursor.at;
-    let read = read_number(word, at);
-    let next = past(read, at);
-    cursor.at = next;
-    read
+    let read = read_number(word, cursor.at)?;
+    cursor.at = read.next;
+    Some(read)
 }

@@ -1,12 +1,14 @@
 -- The word's own refusals, or the question.
-use mathlib.Core.Path.{refl}
+use Rattle.std.proofs.lemmas.Result.{err_from_is_err_and}
 use Rattle.word.proofs.Accepted.{accepted_word}
 use Rattle.pathplus.proofs.Asking.{selects_refused}
 use Rattle.pathplus.proofs.OfRows.{word_refused}
 use Rattle.pathplus.proofs.question.selects.Goals as goal
 
 pub ask-requires : goal.ask-requires
-ask-requires c = accepted_word _ c.in-Accepted.ensures
+ask-requires c = accepted_word _ c.in_ok-check_word.ensures
 
-pub returns-in-Refused : goal.returns-in-Refused
-returns-in-Refused c = selects_refused _ (word_refused _ refl c.in-Refused.ensures)
+pub returns-in_err-check_word : goal.returns-in_err-check_word
+returns-in_err-check_word c =
+    let p = err_from_is_err_and c.from_residual.result c.from_residual.ensures.1 in
+    rw (p.1, p.2) (selects_refused _ (word_refused _ c.in_err-check_word.ensures))

@@ -9,12 +9,7 @@ taken-requires c =
     let (acc, N) = c.requires in
     (record { kids = _; query = query_rows Minimal c.word_rows-rows.ensures acc }, N)
 
-pub returns-then-taken : goal.returns-then-taken
-returns-then-taken c =
-    let (acc, N) = c.requires in
-    selects_told _ acc.1 N (c.word_rows-rows.ensures.tree acc.0 acc.1) (rw c.if-taken.true at c.taken.ensures)
-
 pub returns : goal.returns
 returns c =
     let (acc, N) = c.requires in
-    selects_told _ acc.1 N (c.word_rows-rows.ensures.tree acc.0 acc.1) (rw c.if-taken.false at c.taken.ensures)
+    selects_told _ acc.1 N (c.word_rows-rows.ensures.tree acc.0 acc.1) c.taken.ensures

@@ -1,5 +1,5 @@
 -- The word's own refusals, or its form.
-use mathlib.Core.Path.{refl}
+use Rattle.std.proofs.lemmas.Result.{err_from_is_err_and}
 use Rattle.word.proofs.Accepted.{accepted_word}
 use Rattle.forms.specs.Form.{form_of}
 use Rattle.pathplus.proofs.Writing.{writes_refused}
@@ -7,8 +7,9 @@ use Rattle.pathplus.proofs.OfRows.{word_refused}
 use Rattle.pathplus.proofs.writers.written.Goals as goal
 
 pub write_accepted-requires : goal.write_accepted-requires
-write_accepted-requires c = accepted_word _ c.in-Accepted.ensures
+write_accepted-requires c = accepted_word _ c.in_ok-check_word.ensures
 
-pub returns-in-Refused : goal.returns-in-Refused
-returns-in-Refused c =
-    writes_refused (form_of c.args.form) (word_refused _ refl c.in-Refused.ensures)
+pub returns-in_err-check_word : goal.returns-in_err-check_word
+returns-in_err-check_word c =
+    let p = err_from_is_err_and c.from_residual.result c.from_residual.ensures.1 in
+    rw (p.1, p.2) (writes_refused (form_of c.args.form) (word_refused _ c.in_err-check_word.ensures))

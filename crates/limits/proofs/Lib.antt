@@ -1,0 +1,2 @@
+-- What other crates cite is `pub mod`.
+pub mod Unique

@@ -1,0 +1,2 @@
+-- What the refusals of this crate stand for in the definitions of `meaning`.
+pub mod Refusal
