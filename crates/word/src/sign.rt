@@ -1,4 +1,6 @@
 // The table of signs: their numbers, and what each does to the pending operands.
+// A sign stays the number that the word has: the definitions (`sign_of`, `takes`) and each contract here and in pool speak of that number, so an enum
+// would be a second table, from numbers to names and back, for the four places that match on one.
 ghost use Rattle.std.specs.Prelude.{◌≡◌};
 ghost use Rattle.word.specs.Sign.{kind_of};
 

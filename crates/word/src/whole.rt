@@ -58,7 +58,9 @@ fn check_signs(word: &[u8]) -> Result<Counts, Refused>
     let mut cursor = Cursor { at: 0 };
     while cursor.at < word.len() {
         let at = cursor.at;
-        let read = read_sign(&mut cursor, word).ok_or(BadNumber.at(at))?;
+        let Some(read) = read_sign(&mut cursor, word) else {
+            return Err(BadNumber.at(at));
+        };
         counts = take_sign(counts, read.value, at)?;
     }
     Ok(counts)
