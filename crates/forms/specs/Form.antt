@@ -1,6 +1,6 @@
 -- The three forms of a word, and the bytes of a form over rows. Over rows the two images are one listing: the rows are the plain tree's or the
 -- minimal tree's. Of no rows the image is the byte 0 and the normal form the word 0.
-use Rattle.std.specs.Prelude.{◌≡◌, Bool, true, false, cond, List, ℕ}
+use Rattle.std.specs.Prelude.{◌≡◌, Bool, true, false, List, ℕ}
 use Rattle.std.proofs.Math.Option.{Option}
 use Rattle.meaning.specs.TreeQuery.{Query}
 use Rattle.meaning.specs.Tree.{Forest, Tag}
@@ -8,9 +8,11 @@ use Rattle.meaning.specs.Image.{plain_image, minimal_image}
 use Rattle.meaning.specs.Normal.{normal, word_of, normal_form}
 use Rattle.meaning.specs.Word.{Outcome}
 use Rattle.meaning.specs.Promise.{fitting, length_of, room_after}
-use Rattle.rows.specs.Rows.{tree_rows}
+use Rattle.rows.specs.declared.TreeRows.{TreeRows}
+use Rattle.rows.specs.Trees.{tree_of}
 use Rattle.rows.specs.Table.{image_tree}
-use Rattle.image.specs.Listing.{listing}
+use Rattle.image.specs.Listing.{listing_of}
+use Rattle.normal.specs.Forms.{QueryRows}
 use Rattle.forms.specs.declared.Form.{Form}
 use Rattle.forms.specs.declared.Form.TheVariants.{Plain, Minimal, Normal}
 
@@ -30,15 +32,15 @@ is_folded Normal = true
 abbrev pub form_tree : Form → Option Query → Forest Tag
 form_tree form Q = image_tree (is_folded form) Q
 
--- the form is a word; the two others are images
-abbrev pub is_normal : Form → Bool
-is_normal Plain = false
-is_normal Minimal = false
-is_normal Normal = true
+-- the rows of a tree query, or no rows
+abbrev pub IsQuery : TreeRows → Type 0
+IsQuery t = QueryRows t.code t.mark t.kids t.span t.up t.len
 
--- the bytes of a form of n rows
-unfoldable pub bytes_of : Form → List ℕ → List ℕ → List ℕ → List ℕ → ℕ → List ℕ
-bytes_of form code mark kids span n = cond (is_normal form) (word_of (normal (tree_rows code mark span n))) (listing code mark kids n)
+-- the bytes of a form of rows: the normal form is a word, the two others are images
+unfoldable pub bytes_of : Form → TreeRows → List ℕ
+bytes_of Plain t = listing_of t
+bytes_of Minimal t = listing_of t
+bytes_of Normal t = word_of (normal (tree_of t))
 
 -- the bytes stand in the front of the room, or are refused with 7 where they do not fit
 pub record Fitted (bytes room : List ℕ) (result : Outcome ℕ) (after : List ℕ) : Type 0 where

@@ -1,2 +1,1 @@
 pub mod Form
-pub mod Filled

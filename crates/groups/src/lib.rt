@@ -5,7 +5,7 @@
 ghost use Rattle.std.specs.Prelude.{◌≡◌, [], ◌∷◌, ◌+◌, ◌<◌, ◌≤◌, length};
 ghost use Rattle.meaning.specs.Number.{num};
 ghost use Rattle.groups.specs.Put.{put};
-ghost use Rattle.groups.specs.Filled.{filled};
+ghost use Rattle.groups.specs.Filled.{filled, Fits};
 
 // "The caller's room together with the number of bytes already filled."
 #[derive(Drop)]
@@ -27,7 +27,7 @@ impl<'a> Writer<'a> {
 
     // "Low group first; a byte's top bit is set when another group follows."
     pub fn put_number(&mut self, x: u32)
-        requires { self.old.length + length (num x) ≤ length self.old.room.now }
+        requires { Fits self.old (num x) }
         ensures { self.new ≡ filled self.old (num x) }
     {
         let mut rest = x;

@@ -3,12 +3,13 @@
 // The length is a function of its own: a room that is too short is refused before its first byte is written.
 #![tactic(auto)]
 
-ghost use Rattle.std.specs.Prelude.{◌≡◌, ◌+◌, ◌≤◌, length};
+ghost use Rattle.std.specs.Prelude.{◌≡◌, ◌≤◌, length};
 ghost use Rattle.meaning.specs.Limits.{most_nodes};
-ghost use Rattle.groups.specs.Put.{put, Written};
-ghost use Rattle.image.specs.Listing.{head, listing};
+ghost use Rattle.groups.specs.Filled.{filled, Fits};
+ghost use Rattle.image.specs.Listing.{head, listing_of};
 
-use rows::{Codes, Links, Marks};
+use groups::Writer;
+use rows::TreeRows;
 
 // How many bytes the head of a record takes.
 fn head_length(code: u32, mark: u8, kids: u16) -> usize
@@ -19,45 +20,35 @@ fn head_length(code: u32, mark: u8, kids: u16) -> usize
         + groups::number_length(kids as u32)
 }
 
-// The head of a record, written from place `at` on.
-fn put_head(room: &mut [u8], at: usize, code: u32, mark: u8, kids: u16) -> usize
-    requires { at + length (head code mark kids) ≤ length room.old }
-    ensures place { result ≡ at + length (head code mark kids) }
-    ensures bytes { room.new ≡ put room.old at (head code mark kids) }
+// The head of a record, written behind what the writer has.
+fn put_head(w: &mut Writer<'_>, code: u32, mark: u8, kids: u16)
+    requires { Fits w.old (head code mark kids) }
+    ensures { w.new ≡ filled w.old (head code mark kids) }
 {
-    let second = groups::put_number(room, at, code);
-    let third = groups::put_number(room, second, mark as u32);
-    groups::put_number(room, third, kids as u32)
+    w.put_number(code);
+    w.put_number(mark as u32);
+    w.put_number(kids as u32);
 }
 
-// How many bytes the image of n rows has.
-pub fn image_length(code: &Codes, mark: &Marks, kids: &Links, n: usize) -> usize
-    requires { n ≤ most_nodes }
-    ensures { result ≡ length (listing code.now mark.now kids.now n) }
+// How many bytes the image of the rows has.
+pub fn image_length(rows: &TreeRows) -> usize
+    requires { rows.now.len ≤ most_nodes }
+    ensures { result ≡ length (listing_of rows.now) }
 {
-    let mut bytes = groups::number_length(n as u32);
-    for u in 0..n {
-        bytes += head_length(code[u], mark[u], kids[u]);
+    let mut bytes = groups::number_length(rows.len as u32);
+    for u in 0..rows.len {
+        bytes += head_length(rows.code[u], rows.mark[u], rows.kids[u]);
     }
     bytes
 }
 
-// The image of n rows, written from place `at` on; of no rows it is the one byte 0.
-pub fn put_image(
-    room: &mut [u8],
-    at: usize,
-    code: &Codes,
-    mark: &Marks,
-    kids: &Links,
-    n: usize,
-) -> usize
-    requires { (n ≤ most_nodes) × (at + length (listing code.now mark.now kids.now n) ≤ length room.old) }
-    ensures { Written room.old at
-        (listing code.now mark.now kids.now n) room.new result }
+// The image of the rows, written behind what the writer has; of no rows it is the one byte 0.
+pub fn put_image(w: &mut Writer<'_>, rows: &TreeRows)
+    requires { (rows.now.len ≤ most_nodes) × Fits w.old (listing_of rows.now) }
+    ensures { w.new ≡ filled w.old (listing_of rows.now) }
 {
-    let mut place = groups::put_number(room, at, n as u32);
-    for u in 0..n {
-        place = put_head(room, place, code[u], mark[u], kids[u]);
+    w.put_number(rows.len as u32);
+    for u in 0..rows.len {
+        put_head(w, rows.code[u], rows.mark[u], rows.kids[u]);
     }
-    place
 }

@@ -48,8 +48,8 @@ rows_form form {word = word} {code} {mark} {kids} {span} {up} {n} q R =
 
 module _ (form : Form) {word code mark kids span up : List ℕ} {n : ℕ} (R : RowsOf (λ e. form_tree form (plain e)) word code mark kids span up n)
     (acc : Accepted word) where
-  pub form_written : bytes_of form code mark kids span n ≡ form_of form (plain acc.0)
-  form_written = form_rows form (plain acc.0) R.rows (R.tree acc.0 acc.1)
+  pub form_written : bytes_of form (record { code = code; mark = mark; kids = kids; span = span; up = up; len = n }) ≡ form_of form (plain acc.0)
+  form_written = form_rows form (plain acc.0) _ R.rows (R.tree acc.0 acc.1)
 
   -- where there are rows they are a tree query's tree
   rows_tree : 0 < n → QueryTree (tree_rows code mark span n)

@@ -1,46 +1,30 @@
 // The images and the normal form of a word: refusals 1 to 6, then 7, or the form in the first bytes of the room.
-ghost use Rattle.std.specs.Prelude.{◌≡◌};
 ghost use Rattle.meaning.specs.Promise.{Writes, PlainImage, MinimalImage, NormalForm};
 ghost use Rattle.query.specs.Trees.{Accepted};
 ghost use Rattle.limits.specs.Refusal.{outcome_of};
-ghost use Rattle.forms.specs.Form.{form_of, is_folded};
+ghost use Rattle.forms.specs.Form.{form_of};
 
 use forms::Form;
-use limits::most::MOST_NODES;
 use limits::refusal::Refused;
+use rows::TreeRows;
 use word::whole::check_word;
-
-// Whether the form is of the minimal tree.
-fn is_folded(form: Form) -> bool
-    ensures { result ≡ is_folded form }
-{
-    match form {
-        Form::Plain => false,
-        Form::Minimal => true,
-        Form::Normal => true,
-    }
-}
 
 // The form of an accepted word.
 fn write_accepted(form: Form, word: &[u8], room: &mut [u8]) -> Result<usize, Refused>
     requires { Accepted word.now }
     ensures { Writes (form_of form) word.now room.old (outcome_of result) room.new }
 {
-    let mut code = [0u32; MOST_NODES];
-    let mut mark = [0u8; MOST_NODES];
-    let mut kids = [0u16; MOST_NODES];
-    let mut span = [0u16; MOST_NODES];
-    let mut up = [0u16; MOST_NODES];
-    let n = query::word_rows(
-        is_folded(form),
+    let mut rows = TreeRows::none();
+    rows.len = query::word_rows(
+        form.is_folded(),
         word,
-        &mut code,
-        &mut mark,
-        &mut kids,
-        &mut span,
-        &mut up,
+        &mut rows.code,
+        &mut rows.mark,
+        &mut rows.kids,
+        &mut rows.span,
+        &mut rows.up,
     );
-    forms::fit(room, form, &code, &mark, &kids, &span, &up, n)
+    forms::fit(room, form, &rows)
 }
 
 // The form of a word.

@@ -15,8 +15,6 @@ use Rattle.meaning.specs.Program.{line, plain_name, minimal_name, normal_name, r
 use Rattle.limits.specs.declared.refusal.Refused.{Refused}
 use Rattle.limits.specs.Refusal.{outcome_of}
 use Rattle.word.specs.Answer.{verdict}
-use Rattle.groups.specs.Put.{Written}
-use Rattle.groups.proofs.Put.{written_is, written_then}
 use Rattle.forms.specs.declared.Form.{Form}
 use Rattle.forms.specs.declared.Form.TheVariants.{Plain, Minimal, Normal}
 use Rattle.forms.specs.Form.{form_of}
@@ -37,20 +35,10 @@ module _ (word : List ℕ) (e : Expr) (r : read_word word ≡ answered e) where
   form_bytes_lem form = ap (of_read form) r
 
   -- "plain image, minimal image, normal form"
-  three_lines_lem : program_text word
+  pub three_lines_lem : program_text word
       ≡ line plain_name (form_bytes Plain word) ++ (line minimal_name (form_bytes Minimal word) ++ line normal_name (form_bytes Normal word))
   unfolding program_text
   three_lines_lem = ap reported r ∙ rw (form_bytes_lem Plain, form_bytes_lem Minimal, form_bytes_lem Normal)
-
-  pub three_written : {d d₁ d₂ d₃ : List ℕ} {at a b c : ℕ} → Written d at (line plain_name (form_bytes Plain word)) d₁ a
-      → Written d₁ a (line minimal_name (form_bytes Minimal word)) d₂ b → Written d₂ b (line normal_name (form_bytes Normal word)) d₃ c
-      → Written d at (program_text word) d₃ c
-  three_written u v w = written_is (sym three_lines_lem) (written_then u (written_then v w))
-
-  pub length_three : length (program_text word)
-      ≡ length (line plain_name (form_bytes Plain word))
-      + (length (line minimal_name (form_bytes Minimal word)) + length (line normal_name (form_bytes Normal word)))
-  length_three = ap length three_lines_lem ∙ simp length-append
 
   -- a room of 2,048 bytes is enough
   form_fits : (form : Form) (room : List ℕ) → 2048 ≤ length room → written (form_of form) word room ≡ answered (form_of form (plain e))

@@ -2,12 +2,13 @@
 use mathlib.Core.Path.{◌≡◌}
 use Prim.Native.Nat.{◌+◌, ◌-◌, ◌*◌, ◌≤◌}
 use lib.ListN.{length}
-use Rattle.image.specs.Listing.{listing}
+use Rattle.image.specs.Listing.{listing_of}
 use Rattle.image.proofs.Listing.{left}
 use Rattle.image.proofs.image_length.Given as goal
 
 abbrev pub invariant-loop-u : goal.invariant-loop-u
-invariant-loop-u l = (l.u ≤ l.n) × (l.bytes ≤ 5 + 15 * l.u) × (l.bytes + length (left l.code l.mark l.kids l.n l.u) ≡ length (listing l.code l.mark l.kids l.n))
+invariant-loop-u l = (l.u ≤ l.rows.len) × (l.bytes ≤ 5 + 15 * l.u)
+    × (l.bytes + length (left l.rows.code l.rows.mark l.rows.kids l.rows.len l.u) ≡ length (listing_of l.rows))
 
 abbrev pub decreases-loop-u : goal.decreases-loop-u
-decreases-loop-u l = l.n - l.u
+decreases-loop-u l = l.rows.len - l.u

@@ -1,28 +1,22 @@
 -- Three numbers, each behind the one before it.
-use mathlib.Core.Path.{◌∙◌}
-use native.Mathlib.Omega.{arith}
-use Rattle.image.proofs.Listing.{length_head, put_head}
+use Rattle.groups.proofs.Filled.{owes, part_fits, part_written, all_written}
+use Rattle.image.specs.Listing.{head}
 use Rattle.image.proofs.put_head.Goals as goal
 
-pub put_number-second-requires : goal.put_number-second-requires
-put_number-second-requires c = let a = c.args in omega (arith, length_head a.code a.mark a.kids)
-
-pub put_number-third-requires : goal.put_number-third-requires
-put_number-third-requires c =
-    let a = c.args in omega (arith, length_head a.code a.mark a.kids)
-
 pub put_number-requires : goal.put_number-requires
-put_number-requires c =
-    let a = c.args in omega (arith, length_head a.code a.mark a.kids)
+unfolding head
+put_number-requires c = part_fits _ _ (owes c.args.w.now _ c.requires)
+
+pub put_number-requires-2 : goal.put_number-requires-2
+unfolding head
+put_number-requires-2 c = part_fits _ _ (part_written _ _ (owes _ _ c.requires) c.put_number.ensures)
+
+pub put_number-requires-3 : goal.put_number-requires-3
+unfolding head
+put_number-requires-3 c =
+    (part_written _ _ (part_written _ _ (owes _ _ c.requires) c.put_number.ensures) c.put_number-2.ensures).fits
 
 pub returns : goal.returns
+unfolding head
 returns c =
-    let a = c.args in
-    let p = c.put_number-second in
-    let q = c.put_number-third in
-    let r = c.put_number in
-    let first = put_head a.code a.mark a.kids a.at p.result q.result a.room.now p.new.out q.new.out in
-    record {
-      place = omega (arith, length_head a.code a.mark a.kids);
-      bytes = r.ensures.bytes ∙ first p.ensures.bytes p.ensures.place q.ensures.bytes q.ensures.place;
-    }
+    all_written (part_written _ _ (part_written _ _ (owes _ _ c.requires) c.put_number.ensures) c.put_number-2.ensures) c.put_number-3.ensures

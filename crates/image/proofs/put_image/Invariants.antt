@@ -1,16 +1,13 @@
--- The rows that are left, written into the room as it is now, give the room that is owed.
-use mathlib.Core.Path.{◌≡◌}
-use Prim.Native.Nat.{◌+◌, ◌-◌, ◌≤◌}
-use lib.ListN.{length}
-use Rattle.groups.specs.Put.{put}
+-- The rows that are left are owed.
+use Prim.Native.Nat.{◌-◌, ◌≤◌}
+use Rattle.groups.specs.Filled.{filled}
+use Rattle.groups.proofs.Filled.{Owes}
+use Rattle.image.specs.Listing.{listing_of}
 use Rattle.image.proofs.Listing.{left}
 use Rattle.image.proofs.put_image.Given as goal
 
 abbrev pub invariant-loop-u : goal.invariant-loop-u
-invariant-loop-u l = (l.u ≤ l.n)
-    × (l.place + length (left l.code l.mark l.kids l.n l.u) ≡ l.initial.place + length (left l.code l.mark l.kids l.n l.initial.u))
-    × (put l.room l.place (left l.code l.mark l.kids l.n l.u) ≡ put l.initial.room l.initial.place (left l.code l.mark l.kids l.n l.initial.u))
-    × (length l.room ≡ length l.initial.room)
+invariant-loop-u l = (l.u ≤ l.rows.len) × Owes (filled l.fn.w (listing_of l.rows)) l.w (left l.rows.code l.rows.mark l.rows.kids l.rows.len l.u)
 
 abbrev pub decreases-loop-u : goal.decreases-loop-u
-decreases-loop-u l = l.n - l.u
+decreases-loop-u l = l.rows.len - l.u

@@ -1,33 +1,22 @@
 -- A number below 10 is one digit; of any other its tenth is written first, and a tenth is less.
-use mathlib.Core.Path.{sym, ap}
-use mathlib.Core.List.{[], ◌∷◌}
-use Prim.Native.Nat.{◌+◌, ◌/◌, ◌%◌}
 use native.Mathlib.Omega.{arith}
-use lib.ListN.{length, length-append}
-use Rattle.meaning.specs.Program.{decimal}
-use Rattle.groups.proofs.Put.{written_is, written_then}
-use Rattle.report.proofs.Text.{byte_written, decimal_one, decimal_more}
+use Rattle.groups.proofs.Filled.{owes, owes_is, byte_fits, part_fits, part_written, all_written}
+use Rattle.report.proofs.Text.{decimal_one, decimal_more}
 use Rattle.report.proofs.+put_decimal.Goals as goal
 
 pub put_byte-requires : goal.put_byte-requires
-put_byte-requires t c = omega (arith, ap length (decimal_one _ c.if-x-lt10.true))
+put_byte-requires t c = byte_fits (owes_is (decimal_one _ c.if-x-lt10.true) (owes c.args.w.now _ c.requires))
 
 pub returns-then-x-lt10 : goal.returns-then-x-lt10
-returns-then-x-lt10 t c =
-    let digit = c.put_byte.ensures in
-    written_is (sym (decimal_one _ c.if-x-lt10.true)) (byte_written (digit.place, digit.bytes))
+returns-then-x-lt10 t c = all_written (owes_is (decimal_one _ c.if-x-lt10.true) (owes _ _ c.requires)) c.put_byte.ensures
 
-pub put_decimal-last-requires : goal.put_decimal-last-requires
-put_decimal-last-requires t c =
-    let x = c.args.x in
-    (omega arith, omega (arith, ap length (decimal_more _ c.if-x-lt10.false), length-append (decimal (x / 10)) ((48 + x % 10) ∷ [])))
+pub put_decimal-requires : goal.put_decimal-requires
+put_decimal-requires t c = (omega arith, part_fits _ _ (owes_is (decimal_more _ c.if-x-lt10.false) (owes c.args.w.now _ c.requires)))
 
 pub put_byte-requires-2 : goal.put_byte-requires-2
 put_byte-requires-2 t c =
-    let x = c.args.x in
-    omega (arith, ap length (decimal_more _ c.if-x-lt10.false), length-append (decimal (x / 10)) ((48 + x % 10) ∷ []))
+    byte_fits (part_written _ _ (owes_is (decimal_more _ c.if-x-lt10.false) (owes c.args.w.now _ c.requires)) c.put_decimal.ensures)
 
 pub returns : goal.returns
 returns t c =
-    let digit = c.put_byte-2.ensures in
-    written_is (sym (decimal_more _ c.if-x-lt10.false)) (written_then c.put_decimal-last.ensures (byte_written (digit.place, digit.bytes)))
+    all_written (part_written _ _ (owes_is (decimal_more _ c.if-x-lt10.false) (owes _ _ c.requires)) c.put_decimal.ensures) c.put_byte-2.ensures

@@ -1,22 +1,12 @@
-use native.Mathlib.Omega.{arith}
-use Rattle.groups.proofs.Put.{written_length}
-use Rattle.report.proofs.Text.{byte_written, bytes_bytewise, begun_start, begun_fits, begun_next, begun_end}
+use Rattle.std.proofs.lemmas.List.{drop_more, drop_all}
+use Rattle.groups.proofs.Filled.{owes_is, byte_fits, part_written, none_left}
 use Rattle.report.proofs.put_bytes.Goals as goal
 
-pub loop-i-init : goal.loop-i-init
-loop-i-init c = begun_start bytes_bytewise _ _ _
+pub put_byte-requires : goal.put_byte-requires
+put_byte-requires c = byte_fits (owes_is (drop_more _ _ 0 c.loop-b-test.true) c.loop-b.invariant)
 
-pub put_byte-place-requires : goal.put_byte-place-requires
-put_byte-place-requires c =
-    omega (arith, begun_fits bytes_bytewise _ _ _ c.loop-i-test.true c.loop-i.invariant c.requires)
-
-pub loop-i-preserved : goal.loop-i-preserved
-loop-i-preserved c =
-    let byte = c.put_byte-place.ensures in
-    begun_next bytes_bytewise _ _ _ c.loop-i-test.true c.loop-i.invariant (byte_written (byte.place, byte.bytes))
-
-pub shape_of-text : goal.shape_of-text
-shape_of-text c = written_length c.loop-i.invariant.written
+pub loop-b-preserved : goal.loop-b-preserved
+loop-b-preserved c = part_written _ _ (owes_is (drop_more _ _ 0 c.loop-b-test.true) c.loop-b.invariant) c.put_byte.ensures
 
 pub returns : goal.returns
-returns c = begun_end bytes_bytewise _ _ _ c.loop-i-test.false c.loop-i.invariant
+returns c = none_left (owes_is (drop_all _ _ c.loop-b-test.false) c.loop-b.invariant)

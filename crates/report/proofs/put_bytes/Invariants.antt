@@ -1,10 +1,8 @@
--- Turn by turn the first i bytes are written.
-use Prim.Native.Nat.{◌-◌}
-use Rattle.report.proofs.Text.{Begun}
+-- The bytes that are left are owed.
+use lib.ListN.{drop}
+use Rattle.groups.specs.Filled.{filled}
+use Rattle.groups.proofs.Filled.{Owes}
 use Rattle.report.proofs.put_bytes.Given as goal
 
-abbrev pub invariant-loop-i : goal.invariant-loop-i
-invariant-loop-i l = Begun (λ bs. bs) l.bytes l.initial.text l.at l.text l.place l.i
-
-abbrev pub decreases-loop-i : goal.decreases-loop-i
-decreases-loop-i l = l.i-end - l.i
+abbrev pub invariant-loop-b : goal.invariant-loop-b
+invariant-loop-b l = Owes (filled l.fn.w l.bytes) l.w (drop l.b-index l.bytes)

@@ -1,11 +1,9 @@
--- Turn by turn the first i bytes are written in hex.
-use Prim.Native.Nat.{◌-◌}
+-- The digits of the bytes that are left are owed.
+use lib.ListN.{drop}
 use Rattle.meaning.specs.Program.{hex}
-use Rattle.report.proofs.Text.{Begun}
+use Rattle.groups.specs.Filled.{filled}
+use Rattle.groups.proofs.Filled.{Owes}
 use Rattle.report.proofs.put_hex.Given as goal
 
-abbrev pub invariant-loop-i : goal.invariant-loop-i
-invariant-loop-i l = Begun hex l.bytes l.initial.text l.at l.text l.place l.i
-
-abbrev pub decreases-loop-i : goal.decreases-loop-i
-decreases-loop-i l = l.i-end - l.i
+abbrev pub invariant-loop-b : goal.invariant-loop-b
+invariant-loop-b l = Owes (filled l.fn.w (hex l.bytes)) l.w (hex (drop l.b-index l.bytes))

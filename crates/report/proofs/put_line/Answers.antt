@@ -1,10 +1,6 @@
 -- The answer is never a refusal, and the bytes that it counts are the form.
-use mathlib.Core.Path.{ap}
-use lib.ListN.{length}
-use Rattle.meaning.specs.Program.{line}
-use Rattle.groups.proofs.Put.{written_is}
-use Rattle.report.proofs.Forms.{form_not_refused, form_answered}
 use native.Mathlib.Omega.{arith}
+use Rattle.report.proofs.Forms.{form_not_refused, form_answered}
 use Rattle.report.proofs.put_line.Goals as goal
 
 pub unwrap-length-requires : goal.unwrap-length-requires
@@ -16,10 +12,10 @@ pub put_named-requires : goal.put_named-requires
 put_named-requires c =
     let (e, r) = c.requires.0 in
     let a = form_answered _ e r c.args.form (omega arith) (rw c.unwrap-length.ensures at c.written.ensures) in
-    omega (arith, ap (λ bytes. length (line c.args.name.now bytes)) a.1)
+    rw a.1 c.requires.1
 
 pub returns : goal.returns
 returns c =
     let (e, r) = c.requires.0 in
     let a = form_answered _ e r c.args.form (omega arith) (rw c.unwrap-length.ensures at c.written.ensures) in
-    written_is (ap (line _) a.1) c.put_named.ensures
+    rw a.1 at c.put_named.ensures

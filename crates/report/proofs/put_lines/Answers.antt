@@ -1,24 +1,27 @@
 -- One line behind the other.
-use native.Mathlib.Omega.{arith}
-use Rattle.report.proofs.Forms.{three_written, length_three}
+use Rattle.groups.proofs.Filled.{owes, owes_is, part_fits, part_written, all_written}
+use Rattle.report.proofs.Forms.{three_lines_lem}
 use Rattle.report.proofs.put_lines.Goals as goal
-
-pub put_line-second-requires : goal.put_line-second-requires
-put_line-second-requires c =
-    let (e, r) = c.requires.0 in
-    (c.requires.0, omega (arith, length_three _ e r))
-
-pub put_line-third-requires : goal.put_line-third-requires
-put_line-third-requires c =
-    let (e, r) = c.requires.0 in
-    (c.requires.0, omega (arith, length_three _ e r))
 
 pub put_line-requires : goal.put_line-requires
 put_line-requires c =
     let (e, r) = c.requires.0 in
-    (c.requires.0, omega (arith, length_three _ e r))
+    (c.requires.0, part_fits _ _ (owes_is (three_lines_lem _ e r) (owes c.args.w.now _ c.requires.1)))
+
+pub put_line-requires-2 : goal.put_line-requires-2
+put_line-requires-2 c =
+    let (e, r) = c.requires.0 in
+    let o = owes_is (three_lines_lem _ e r) (owes c.args.w.now _ c.requires.1) in
+    (c.requires.0, part_fits _ _ (part_written _ _ o c.put_line.ensures))
+
+pub put_line-requires-3 : goal.put_line-requires-3
+put_line-requires-3 c =
+    let (e, r) = c.requires.0 in
+    let o = owes_is (three_lines_lem _ e r) (owes c.args.w.now _ c.requires.1) in
+    (c.requires.0, (part_written _ _ (part_written _ _ o c.put_line.ensures) c.put_line-2.ensures).fits)
 
 pub returns : goal.returns
 returns c =
     let (e, r) = c.requires.0 in
-    three_written _ e r c.put_line-second.ensures c.put_line-third.ensures c.put_line.ensures
+    let o = owes_is (three_lines_lem _ e r) (owes _ _ c.requires.1) in
+    all_written (part_written _ _ (part_written _ _ o c.put_line.ensures) c.put_line-2.ensures) c.put_line-3.ensures

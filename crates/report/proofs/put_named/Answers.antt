@@ -1,29 +1,29 @@
 -- A name, a blank, the digits and the line feed, one behind the other.
-use native.Mathlib.Omega.{arith}
-use Rattle.theory.proofs.Program.{length_hex, length_line}
-use Rattle.report.proofs.Text.{byte_written, line_written}
+use Rattle.meaning.specs.Program.{line}
+use Rattle.groups.proofs.Filled.{owes, byte_fits, part_fits, part_written, all_written}
 use Rattle.report.proofs.put_named.Goals as goal
 
-pub put_bytes-blank-requires : goal.put_bytes-blank-requires
-put_bytes-blank-requires c =
-    omega (arith, length_line c.args.name.now c.args.bytes.now)
-
-pub put_byte-digits-requires : goal.put_byte-digits-requires
-put_byte-digits-requires c =
-    omega (arith, length_line c.args.name.now c.args.bytes.now)
-
-pub put_hex-end-requires : goal.put_hex-end-requires
-put_hex-end-requires c =
-    omega (arith, length_line c.args.name.now c.args.bytes.now, length_hex c.args.bytes.now)
+pub put_bytes-requires : goal.put_bytes-requires
+unfolding line
+put_bytes-requires c = part_fits _ _ (owes c.args.w.now _ c.requires)
 
 pub put_byte-requires : goal.put_byte-requires
-put_byte-requires c =
-    omega (arith, length_line c.args.name.now c.args.bytes.now, length_hex c.args.bytes.now)
+unfolding line
+put_byte-requires c = byte_fits (part_written _ _ (owes c.args.w.now _ c.requires) c.put_bytes.ensures)
+
+pub put_hex-requires : goal.put_hex-requires
+unfolding line
+put_hex-requires c =
+    part_fits _ _ (part_written _ _ (part_written _ _ (owes c.args.w.now _ c.requires) c.put_bytes.ensures) c.put_byte.ensures)
+
+pub put_byte-requires-2 : goal.put_byte-requires-2
+unfolding line
+put_byte-requires-2 c =
+    let o = part_written _ _ (part_written _ _ (owes c.args.w.now _ c.requires) c.put_bytes.ensures) c.put_byte.ensures in
+    byte_fits (part_written _ _ o c.put_hex.ensures)
 
 pub returns : goal.returns
+unfolding line
 returns c =
-    let name = c.put_bytes-blank.ensures in
-    let blank = c.put_byte-digits.ensures in
-    let digits = c.put_hex-end.ensures in
-    let feed = c.put_byte.ensures in
-    line_written _ _ name (byte_written (blank.place, blank.bytes)) digits (byte_written (feed.place, feed.bytes))
+    let o = part_written _ _ (part_written _ _ (owes c.args.w.now _ c.requires) c.put_bytes.ensures) c.put_byte.ensures in
+    all_written (part_written _ _ o c.put_hex.ensures) c.put_byte-2.ensures

@@ -1,34 +1,36 @@
 -- The word `refused` and a blank, the number, a blank, the place and the line feed, one behind the other.
 use native.Mathlib.Omega.{arith}
+use Rattle.meaning.specs.Program.{refusal_line}
 use Rattle.theory.proofs.Program.{length_refusal}
-use Rattle.report.proofs.Text.{byte_written, refusal_written}
+use Rattle.groups.proofs.Filled.{owes, byte_fits, part_fits, part_written, all_written}
 use Rattle.report.proofs.put_refusal.Goals as goal
 
-pub put_bytes-first-requires : goal.put_bytes-first-requires
-put_bytes-first-requires c =
-    omega (arith, rw (← c.number-number.ensures) at c.requires, length_refusal c.number-number.result c.args.refused.place)
+pub put_bytes-requires : goal.put_bytes-requires
+put_bytes-requires c = omega (arith, length_refusal c.args.number c.args.place)
 
-pub put_decimal-blank-requires : goal.put_decimal-blank-requires
-put_decimal-blank-requires c =
-    omega (arith, rw (← c.number-number.ensures) at c.requires, length_refusal c.number-number.result c.args.refused.place)
-
-pub put_byte-second-requires : goal.put_byte-second-requires
-put_byte-second-requires c =
-    omega (arith, rw (← c.number-number.ensures) at c.requires, length_refusal c.number-number.result c.args.refused.place)
-
-pub put_decimal-end-requires : goal.put_decimal-end-requires
-put_decimal-end-requires c =
-    omega (arith, rw (← c.number-number.ensures) at c.requires, length_refusal c.number-number.result c.args.refused.place)
+pub put_decimal-requires : goal.put_decimal-requires
+unfolding refusal_line
+put_decimal-requires c = part_fits _ _ (part_written _ _ (owes c.args.w.now _ c.requires) c.put_bytes.ensures)
 
 pub put_byte-requires : goal.put_byte-requires
+unfolding refusal_line
 put_byte-requires c =
-    omega (arith, rw (← c.number-number.ensures) at c.requires, length_refusal c.number-number.result c.args.refused.place)
+    byte_fits (part_written _ _ (part_written _ _ (owes c.args.w.now _ c.requires) c.put_bytes.ensures) c.put_decimal.ensures)
+
+pub put_decimal-requires-2 : goal.put_decimal-requires-2
+unfolding refusal_line
+put_decimal-requires-2 c =
+    let o = part_written _ _ (part_written _ _ (owes c.args.w.now _ c.requires) c.put_bytes.ensures) c.put_decimal.ensures in
+    part_fits _ _ (part_written _ _ o c.put_byte.ensures)
+
+pub put_byte-requires-2 : goal.put_byte-requires-2
+unfolding refusal_line
+put_byte-requires-2 c =
+    let o = part_written _ _ (part_written _ _ (owes c.args.w.now _ c.requires) c.put_bytes.ensures) c.put_decimal.ensures in
+    byte_fits (part_written _ _ (part_written _ _ o c.put_byte.ensures) c.put_decimal-2.ensures)
 
 pub returns : goal.returns
+unfolding refusal_line
 returns c =
-    let name = c.put_bytes-first.ensures in
-    let number = rw c.number-number.ensures at c.put_decimal-blank.ensures in
-    let blank = c.put_byte-second.ensures in
-    let place = c.put_decimal-end.ensures in
-    let feed = c.put_byte.ensures in
-    refusal_written _ _ name number (byte_written (blank.place, blank.bytes)) place (byte_written (feed.place, feed.bytes))
+    let o = part_written _ _ (part_written _ _ (owes c.args.w.now _ c.requires) c.put_bytes.ensures) c.put_decimal.ensures in
+    all_written (part_written _ _ (part_written _ _ o c.put_byte.ensures) c.put_decimal-2.ensures) c.put_byte-2.ensures
