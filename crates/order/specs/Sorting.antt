@@ -6,6 +6,8 @@ use Rattle.meaning.specs.Image.{ordered}
 use Rattle.meaning.specs.Tree.{Forest, bare, tree}
 use Rattle.rows.specs.Rows.{width, tag_at, map_t}
 use Rattle.rows.specs.Table.{table_tree, TreeTable, ParentsFirst}
+use Rattle.order.specs.declared.Table.{Table}
+use Rattle.order.specs.declared.children.Lists.{Lists}
 use Rattle.order.specs.Keys.{key_of}
 use Rattle.order.specs.Links.{slot_of, Known, forest_at, Linked, Listed, ordered_by}
 use Rattle.order.specs.Contract.{Lent}
@@ -33,3 +35,6 @@ pub record Sorting (parent code mark : List ℕ) (n b : ℕ) (fs ns key : List �
 pub record Sorted (parent code mark : List ℕ) (n : ℕ) (fs ns : List ℕ) : Type 0 where
   pub listed : Listed n fs ns
   pub reads : map_t (tag_at code mark) (forest_at n fs ns (get_or fs n 0)) ≡ ordered (table_tree parent code mark n)
+
+abbrev pub IsSorted : Table → Lists → Type 0
+IsSorted t l = Sorted t.parent.now t.code.now t.mark.now t.n l.first l.next

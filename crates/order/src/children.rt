@@ -1,12 +1,19 @@
-// The children of each row, as lists: `first` has a row's first child, `next` its next brother. Behind the n rows `first` has one more slot, for the
-// list of the top, which has no parent. A link that is not below n leads nowhere.
-ghost use Rattle.std.specs.Prelude.{◌≡◌, ◌+◌, ◌<◌, ◌≤◌, get_or};
+// The children of each row, as lists.
+ghost use Rattle.std.specs.Prelude.{◌≡◌, ◌+◌, ◌≤◌};
 ghost use Rattle.meaning.specs.Limits.{most_nodes};
 ghost use Rattle.order.specs.Links.{slot_of};
 ghost use Rattle.order.specs.Gathering.{Cleared, Hangs, Gathered};
 ghost use Rattle.order.specs.Contract.{Lent};
 
-use rows::{NO_ROW, Starts, link, wide};
+use rows::{NO_ROW, Starts, link};
+
+// `first` has a row's first child, `next` its next brother. Behind the n rows `first` has one more slot, for the list of the top, which has no
+// parent. A link that is not below n leads nowhere. They are lent and never copied.
+#[derive(Drop)]
+pub struct Lists {
+    pub first: Starts,
+    pub next: Starts,
+}
 
 // Where the list of p's children starts in `first`.
 pub fn slot(p: usize, n: usize) -> usize
@@ -18,39 +25,27 @@ pub fn slot(p: usize, n: usize) -> usize
     n
 }
 
-// What stands at i, as a row number. One call for each read keeps the proofs of its callers short.
-pub fn row_at(t: &Starts, i: usize) -> usize
-    requires { i ≤ most_nodes }
-    ensures { (result ≡ get_or t.now i 0) × (result < 65536) }
-{
-    wide(t[i])
-}
-
-// Empties the lists of n rows and of the top, and the counts that sorting keeps in `next`.
-pub fn clear(n: usize, first: &mut Starts, next: &mut Starts)
-    requires { (n ≤ most_nodes) × Lent first.old next.old }
-    ensures { Cleared (n + 1) first.new next.new × Lent first.new next.new }
-{
-    let mut i: usize = 0;
-    while i <= n {
-        first[i] = NO_ROW;
-        next[i] = 0;
-        i += 1;
+impl Lists {
+    // Empties the lists of n rows and of the top, and the counts that sorting keeps in `next`.
+    pub(crate) fn clear(&mut self, n: usize)
+        requires { n ≤ most_nodes }
+        ensures { Cleared (n + 1) self.new.first self.new.next × Lent self.new.first self.new.next }
+    {
+        self.first[..=n].fill(NO_ROW);
+        self.next[..=n].fill(0);
     }
-}
 
-// Gives each parent the list of its children, in the order of the table.
-pub fn gather(parent: &[u16], n: usize, first: &mut Starts, next: &mut Starts)
-    requires { Hangs parent.now n × Lent first.old next.old }
-    ensures { Gathered parent.now n 0 first.new next.new × Lent first.new next.new }
-{
-    clear(n, first, next);
-    let mut i = n;
-    // from the last row to the first: a row is put in front of its later brothers
-    while 0 < i {
-        i -= 1;
-        let p = slot(link(parent, i), n);
-        next[i] = first[p];
-        first[p] = i as u16;
+    // Gives each parent the list of its children, in the order of the table.
+    pub(crate) fn gather(&mut self, parent: &[u16], n: usize)
+        requires { Hangs parent.now n }
+        ensures { Gathered parent.now n 0 self.new.first self.new.next }
+    {
+        self.clear(n);
+        // from the last row to the first: a row is put in front of its later brothers
+        for i in (0..n).rev() {
+            let p = slot(link(parent, i), n);
+            self.next[i] = self.first[p];
+            self.first[p] = i as u16;
+        }
     }
 }

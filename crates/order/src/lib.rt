@@ -7,70 +7,42 @@ mod key; // key.rt: one number for the head of a record
 mod sorting; // sorting.rt: comparing two brothers, and putting all in order
 mod laying; // laying.rt: lists laid out as rows
 
-ghost use Rattle.std.specs.Prelude.{◌≡◌, length};
-ghost use Rattle.meaning.specs.Limits.{most_nodes};
+ghost use Rattle.std.specs.Prelude.{◌≡◌};
 ghost use Rattle.meaning.specs.Image.{ordered};
-ghost use Rattle.rows.specs.Rows.{Rows, tree_rows, Room};
-ghost use Rattle.rows.specs.Table.{TreeTable, ParentsFirst, table_tree};
-ghost use Rattle.order.specs.Contract.{Lent};
+ghost use Rattle.rows.specs.Table.{ParentsFirst};
+ghost use Rattle.rows.specs.Trees.{IsTree, tree_of};
+ghost use Rattle.order.specs.Contract.{IsTable, tree_of_table};
 
-use crate::children::gather;
-use crate::key::Keys;
 use crate::laying::lay;
-use crate::sorting::sort_rows;
-use rows::{Codes, Links, Marks, Starts};
+pub use children::Lists;
+use limits::most::MOST_NODES;
+use rows::{Marks, TreeRows};
 
-// The tree of the first n rows of a table as rows in image order. parent[i] is the row of i's parent, which stands before row i, and NO_ROW at the
-// top, row 0; the tables from `first` to `key` are lent to work in, and what they are left with means nothing.
-pub fn image_rows(
-    parent: &Links,
-    code: &Codes,
-    mark: &Marks,
-    n: usize,
-    first: &mut Starts,
-    next: &mut Starts,
-    key: &mut Keys,
-    out_code: &mut Codes,
-    out_mark: &mut Marks,
-    kids: &mut Links,
-    span: &mut Links,
-    up: &mut Links,
-)
-    requires { TreeTable parent.now code.now mark.now n × ParentsFirst parent.now n × Lent first.old next.old
-        × (length key.old ≡ most_nodes) × Room out_code.old out_mark.old kids.old span.old up.old }
-    ensures { let c = out_code.new in let m = out_mark.new in let k = kids.new in let s = span.new in
-        let u = up.new in
-        Rows c m k s u n × (tree_rows c m s n ≡ ordered (table_tree parent.now code.now mark.now n)) × Room c m k s u }
-{
-    sort_rows(parent, code, mark, n, first, next, key);
-    lay(
-        code, mark, first, next, n, out_code, out_mark, kids, span, up,
-    );
+// The first n rows of a table of parents: parent[i] is the row of i's parent, and NO_ROW at the top; code[i] and mark[i] are what row i bears.
+#[derive(Clone, Copy)]
+pub struct Table<'a> {
+    pub parent: &'a [u16],
+    pub code: &'a [u32],
+    pub mark: &'a Marks,
+    pub n: usize,
 }
 
-// The tree of the first n rows of a table, which stand in any order, as rows with brothers in the order of the table. The rest is as in `image_rows`.
-pub fn tree_rows(
-    parent: &[u16],
-    code: &[u32],
-    mark: &Marks,
-    n: usize,
-    first: &mut Starts,
-    next: &mut Starts,
-    out_code: &mut Codes,
-    out_mark: &mut Marks,
-    kids: &mut Links,
-    span: &mut Links,
-    up: &mut Links,
-)
-    requires { TreeTable parent.now code.now mark.now n × Lent first.old next.old
-        × Room out_code.old out_mark.old kids.old span.old up.old }
-    ensures { let c = out_code.new in let m = out_mark.new in let k = kids.new in let s = span.new in
-        let u = up.new in
-        Rows c m k s u n × (tree_rows c m s n ≡ table_tree parent.now code.now mark.now n) × Room c m k s u
-        × Lent first.new next.new }
+// The tree of a table as rows in image order. A row's parent stands before it, and the top is row 0. The lists are lent to work in, and what they are
+// left with means nothing.
+pub fn image_rows(table: Table<'_>, lists: &mut Lists, rows: &mut TreeRows)
+    requires { IsTable table × ParentsFirst table.parent.now table.n }
+    ensures { IsTree rows.new × (tree_of rows.new ≡ ordered (tree_of_table table.entry)) × (rows.new.len ≡ table.entry.n) }
 {
-    gather(parent, n, first, next);
-    lay(
-        code, mark, first, next, n, out_code, out_mark, kids, span, up,
-    );
+    let mut key = [0u64; MOST_NODES];
+    lists.sort_rows(table, &mut key);
+    lay(table, lists, rows);
+}
+
+// The tree of a table whose rows stand in any order, as rows with brothers in the order of the table. The rest is as in `image_rows`.
+pub fn tree_rows(table: Table<'_>, lists: &mut Lists, rows: &mut TreeRows)
+    requires { IsTable table }
+    ensures { IsTree rows.new × (tree_of rows.new ≡ tree_of_table table.entry) × (rows.new.len ≡ table.entry.n) }
+{
+    lists.gather(table.parent, table.n);
+    lay(table, lists, rows);
 }

@@ -1,12 +1,15 @@
 // Brothers in ascending byte order: each row is put in its place among its later brothers, so that the lists of children are in order from the start.
 ghost use Rattle.std.specs.Prelude.{◌≡◌, ◌<◌, ◌≤◌, get_or};
 ghost use Rattle.meaning.specs.Limits.{most_nodes};
+ghost use Rattle.rows.specs.Table.{ParentsFirst};
 ghost use Rattle.order.specs.Links.{Finite, compared_at, goes_first, spot_at, Ready, PutAmong};
-ghost use Rattle.order.specs.Sorting.{Sortable, Sorted};
+ghost use Rattle.order.specs.Contract.{IsTable};
+ghost use Rattle.order.specs.Sorting.{IsSorted};
 
-use crate::children::{clear, row_at, slot};
+use crate::Table;
+use crate::children::{Lists, slot};
 use crate::key::{Keys, key_of};
-use rows::{Codes, Links, Marks, Starts, wide};
+use rows::{at, link};
 
 // How one record, or one list of records, stands to another in byte order.
 #[derive(Drop)]
@@ -16,121 +19,114 @@ enum Order {
     After,
 }
 
-// The brothers from x on against the brothers from y on: the first two, then their later brothers. Equal keys have equally many children, so two
-// lists that are compared end together, and records are compared byte by byte although none is written. Only children are compared by a call, so at
-// most one frame a level is open.
-fn compare(first: &Starts, next: &Starts, key: &Keys, n: usize, x: usize, y: usize) -> Order
-    requires { (n ≤ most_nodes) × Finite n first.now next.now x × Finite n first.now next.now y }
-    ensures { result ≡ compared_at n first.now next.now key.now x y }
-{
-    let mut a = x;
-    let mut b = y;
-    while a < n {
-        if n <= b {
-            return Order::After;
-        }
-        let k = key[a];
-        let l = key[b];
-        if k < l {
-            return Order::Before;
-        }
-        if l < k {
-            return Order::After;
-        }
-        let o = compare(first, next, key, n, row_at(first, a), row_at(first, b));
-        match o {
-            Order::Before => return Order::Before,
-            Order::After => return Order::After,
-            Order::Same => {
-                a = row_at(next, a);
-                b = row_at(next, b);
+impl Lists {
+    // The brothers from x on against the brothers from y on: the first two, then their later brothers. Equal keys have equally many children, so two
+    // lists that are compared end together, and records are compared byte by byte although none is written. Only children are compared by a call, so
+    // at most one frame a level is open.
+    fn compare(&self, key: &Keys, n: usize, x: usize, y: usize) -> Order
+        requires { let Ends = Finite n self.now.first self.now.next in (n ≤ most_nodes) × Ends x × Ends y }
+        ensures { result ≡ compared_at n self.now.first self.now.next key.now x y }
+    {
+        let mut a = x;
+        let mut b = y;
+        while a < n {
+            if n <= b {
+                return Order::After;
+            }
+            let k = key[a];
+            let l = key[b];
+            if k < l {
+                return Order::Before;
+            }
+            if l < k {
+                return Order::After;
+            }
+            let o = self.compare(key, n, at(&self.first, a), at(&self.first, b));
+            match o {
+                Order::Before => return Order::Before,
+                Order::After => return Order::After,
+                Order::Same => {
+                    a = at(&self.next, a);
+                    b = at(&self.next, b);
+                }
             }
         }
-    }
-    if b < n {
-        return Order::Before;
-    }
-    Order::Same
-}
-
-// Whether the record of the tree at c goes before that of the tree at q or is equal to it. Later brothers don't matter.
-fn goes_first(first: &Starts, next: &Starts, key: &Keys, n: usize, c: usize, q: usize) -> bool
-    requires { let Ends = Finite n first.now next.now in
-        (n ≤ most_nodes) × (c < n) × (q < n) × Ends (get_or first.now c 0) × Ends (get_or first.now q 0) }
-    ensures { result ≡ goes_first n first.now next.now key.now c q }
-{
-    let a = key[c];
-    let b = key[q];
-    if a < b {
-        return true;
-    }
-    if b < a {
-        return false;
-    }
-    let o = compare(first, next, key, n, row_at(first, c), row_at(first, q));
-    match o {
-        Order::Before => true,
-        Order::Same => true,
-        Order::After => false,
-    }
-}
-
-// The last tree of the list at q that goes before the tree at c; n where there is none. It changes nothing: `place` does, by two links.
-fn spot(first: &Starts, next: &Starts, key: &Keys, n: usize, c: usize, q: usize) -> usize
-    requires { let Ends = Finite n first.now next.now in
-        (n ≤ most_nodes) × (c < n) × Ends (get_or first.now c 0) × Ends q }
-    ensures { result ≡ spot_at n first.now next.now key.now c q }
-{
-    let mut p = n;
-    let mut at = q;
-    while at < n {
-        if goes_first(first, next, key, n, c, at) {
-            return p;
+        if b < n {
+            return Order::Before;
         }
-        p = at;
-        at = row_at(next, at);
+        Order::Same
     }
-    p
-}
 
-// Puts the tree at c into the list at q, which is in order, and returns the first tree.
-fn place(first: &Starts, next: &mut Starts, key: &Keys, n: usize, c: usize, q: usize) -> usize
-    requires { Ready n first.now next.old c q }
-    ensures { PutAmong n first.now next.old key.now c q next.new result }
-{
-    let p = spot(first, next, key, n, c, q);
-    if n <= p {
-        next[c] = q as u16;
-        return c;
+    // Whether the record of the tree at c goes before that of the tree at q or is equal to it. Later brothers don't matter.
+    fn goes_first(&self, key: &Keys, n: usize, c: usize, q: usize) -> bool
+        requires { let Ends = Finite n self.now.first self.now.next in
+            (n ≤ most_nodes) × (c < n) × (q < n) × Ends (get_or self.now.first c 0) × Ends (get_or self.now.first q 0) }
+        ensures { result ≡ goes_first n self.now.first self.now.next key.now c q }
+    {
+        let a = key[c];
+        let b = key[q];
+        if a < b {
+            return true;
+        }
+        if b < a {
+            return false;
+        }
+        let o = self.compare(key, n, at(&self.first, c), at(&self.first, q));
+        match o {
+            Order::Before => true,
+            Order::Same => true,
+            Order::After => false,
+        }
     }
-    next[c] = next[p];
-    next[p] = c as u16;
-    q
-}
 
-// Puts all brothers in order, from the last row to the first: what lies below a row comes after it in the table, and is in order when the row is
-// placed; until then `next` has the number of its children. A list in order already costs one comparison a row.
-pub fn sort_rows(
-    parent: &Links,
-    code: &Codes,
-    mark: &Marks,
-    n: usize,
-    first: &mut Starts,
-    next: &mut Starts,
-    key: &mut Keys,
-)
-    requires { Sortable parent.now code.now mark.now n first.old next.old key.old }
-    ensures { Sorted parent.now code.now mark.now n first.new next.new }
-{
-    clear(n, first, next);
-    let mut i = n;
-    while 0 < i {
-        i -= 1;
-        key[i] = key_of(code[i], mark[i], next[i]);
-        let p = slot(wide(parent[i]), n);
-        let h = row_at(first, p);
-        let q = place(first, next, key, n, i, h);
-        first[p] = q as u16;
-        next[p] = next[p] + 1;
+    // The last tree of the list at q that goes before the tree at c; n where there is none. It changes nothing: `place` does, by two links.
+    fn spot(&self, key: &Keys, n: usize, c: usize, q: usize) -> usize
+        requires { let Ends = Finite n self.now.first self.now.next in
+            (n ≤ most_nodes) × (c < n) × Ends (get_or self.now.first c 0) × Ends q }
+        ensures { result ≡ spot_at n self.now.first self.now.next key.now c q }
+    {
+        let mut p = n;
+        let mut i = q;
+        while i < n {
+            if self.goes_first(key, n, c, i) {
+                return p;
+            }
+            p = i;
+            i = at(&self.next, i);
+        }
+        p
+    }
+
+    // Puts the tree at c into the list at q, which is in order, and returns the first tree.
+    fn place(&mut self, key: &Keys, n: usize, c: usize, q: usize) -> usize
+        requires { Ready n self.old.first self.old.next c q }
+        ensures { (self.new.first ≡ self.old.first) × PutAmong n self.old.first self.old.next key.now c q self.new.next result }
+    {
+        let p = self.spot(key, n, c, q);
+        if n <= p {
+            self.next[c] = q as u16;
+            return c;
+        }
+        self.next[c] = self.next[p];
+        self.next[p] = c as u16;
+        q
+    }
+
+    // Puts all brothers in order, from the last row to the first: what lies below a row comes after it in the table, and is in order when the row is
+    // placed; until then `next` has the number of its children. A list in order already costs one comparison a row.
+    pub(crate) fn sort_rows(&mut self, table: Table<'_>, key: &mut Keys)
+        requires { IsTable table × ParentsFirst table.parent.now table.n }
+        ensures { IsSorted table.entry self.new }
+    {
+        let n = table.n;
+        self.clear(n);
+        for i in (0..n).rev() {
+            key[i] = key_of(table.code[i], table.mark[i], self.next[i]);
+            let p = slot(link(table.parent, i), n);
+            let h = at(&self.first, p);
+            let q = self.place(key, n, i, h);
+            self.first[p] = q as u16;
+            self.next[p] = self.next[p] + 1;
+        }
     }
 }

@@ -15,7 +15,8 @@ use Rattle.theory.proofs.Look.{never}
 use Rattle.theory.proofs.Marks.{QueryTree, query_tree, ordered_query_tree}
 use Rattle.theory.proofs.Plain.{Means, plain_means}
 use Rattle.theory.proofs.Same.{least_tree}
-use Rattle.rows.specs.Rows.{tree_rows}
+use Rattle.rows.specs.Trees.{tree_of as tree_at}
+use Rattle.rows.specs.declared.TreeRows.{TreeRows}
 use Rattle.rows.specs.Table.{image_tree}
 use Rattle.rows.proofs.Rows.{size_rows}
 use Rattle.normal.specs.Forms.{QueryRows}
@@ -41,18 +42,16 @@ form_tree_lem Minimal Q v = least_tree Q v
 form_tree_lem Normal Q v = least_tree Q v
 
 -- the rows of the tree that a form is of
-pub rows_form : (form : Form) {folded : Bool} {word code mark kids span up : List ℕ} {n : ℕ} → folded ≡ is_folded form
-    → RowsOf (λ e. image_tree folded (plain e)) word code mark kids span up n → RowsOf (λ e. form_tree form (plain e)) word code mark kids span up n
-rows_form form {word = word} {code} {mark} {kids} {span} {up} {n} q R =
-    subst (λ b. RowsOf (λ e. image_tree b (plain e)) word code mark kids span up n) q R
+pub rows_form : (form : Form) {folded : Bool} {word : List ℕ} {t : TreeRows} → folded ≡ is_folded form
+    → RowsOf (λ e. image_tree folded (plain e)) word t → RowsOf (λ e. form_tree form (plain e)) word t
+rows_form form {word = word} {t} q R = subst (λ b. RowsOf (λ e. image_tree b (plain e)) word t) q R
 
-module _ (form : Form) {word code mark kids span up : List ℕ} {n : ℕ} (R : RowsOf (λ e. form_tree form (plain e)) word code mark kids span up n)
-    (acc : Accepted word) where
-  pub form_written : bytes_of form (record { code = code; mark = mark; kids = kids; span = span; up = up; len = n }) ≡ form_of form (plain acc.0)
+module _ (form : Form) {word : List ℕ} {t : TreeRows} (R : RowsOf (λ e. form_tree form (plain e)) word t) (acc : Accepted word) where
+  pub form_written : bytes_of form t ≡ form_of form (plain acc.0)
   form_written = form_rows form (plain acc.0) _ R.rows (R.tree acc.0 acc.1)
 
   -- where there are rows they are a tree query's tree
-  rows_tree : 0 < n → QueryTree (tree_rows code mark span n)
+  rows_tree : 0 < t.len → QueryTree (tree_at t)
   unfolding minimal
   rows_tree pos = subst QueryTree (sym (R.tree acc.0 acc.1)) (go (plain acc.0) refl (plain_means acc.0))
     where
@@ -63,10 +62,10 @@ module _ (form : Form) {word code mark kids span up : List ℕ} {n : ℕ} (R : R
 
       go : (o : Option Query) → plain acc.0 ≡ o → Means (pairs acc.0) o → QueryTree (form_tree form (plain acc.0))
       go none e w =
-          let z = size_rows span n R.rows.laid code mark in
-          let y : size (tree_rows code mark span n) ≡ 0 = ap size (R.tree acc.0 acc.1 ∙ ap (form_tree form) e) ∙ empty form in
+          let z = size_rows t.span t.len R.rows.laid t.code t.mark in
+          let y : size (tree_at t) ≡ 0 = ap size (R.tree acc.0 acc.1 ∙ ap (form_tree form) e) ∙ empty form in
           absurd (omega arith)
       go (some Q) e (v, w) = subst (λ o. QueryTree (form_tree form o)) (sym e) (form_tree_lem form Q v)
 
-  pub query_rows : QueryRows code mark kids span up n
+  pub query_rows : QueryRows t.code t.mark t.kids t.span t.up t.len
   query_rows = record { rows = R.rows; one_src = λ pos. (rows_tree pos).source; one_dst = λ pos. (rows_tree pos).dest }

@@ -9,10 +9,9 @@ ghost use Rattle.rows.specs.Rows.{tree_rows};
 ghost use Rattle.pathplus.specs.Answer.{question};
 ghost use Rattle.pathplus.specs.Pair.{NotRefused, RowsAsked, Taken};
 
-use limits::most::MOST_NODES;
 use limits::refusal::Refusal::{BadTable, NoSuchNode, WorkspaceTooShort};
 use limits::refusal::Refused;
-use rows::{Codes, Links, Marks};
+use rows::{Codes, Links, Marks, TreeRows};
 use word::whole::check_word;
 
 // The bytes of the match table: 256 rows of 128 bytes.
@@ -56,16 +55,10 @@ fn tell(
     ensures { Selected (question word.now parents.now labels.now m n workspace.old)
         (answered result) workspace.new }
 {
-    let mut code = [0u32; MOST_NODES];
-    let mut mark = [0u8; MOST_NODES];
-    let mut kids = [0u16; MOST_NODES];
-    let mut span = [0u16; MOST_NODES];
-    let mut up = [0u16; MOST_NODES];
-    let rows = query::word_rows(
-        true, word, &mut code, &mut mark, &mut kids, &mut span, &mut up,
-    );
+    let mut rows = TreeRows::none();
+    query::word_rows(true, word, &mut rows);
     taken(
-        &code, &mark, &span, &up, rows, parents, labels, m, n, workspace,
+        &rows.code, &rows.mark, &rows.span, &rows.up, rows.len, parents, labels, m, n, workspace,
     )
 }
 

@@ -15,15 +15,7 @@ fn write_accepted(form: Form, word: &[u8], room: &mut [u8]) -> Result<usize, Ref
     ensures { Writes (form_of form) word.now room.old (outcome_of result) room.new }
 {
     let mut rows = TreeRows::none();
-    rows.len = query::word_rows(
-        form.is_folded(),
-        word,
-        &mut rows.code,
-        &mut rows.mark,
-        &mut rows.kids,
-        &mut rows.span,
-        &mut rows.up,
-    );
+    query::word_rows(form.is_folded(), word, &mut rows);
     forms::fit(room, form, &rows)
 }
 

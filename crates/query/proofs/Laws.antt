@@ -19,6 +19,7 @@ use Rattle.theory.proofs.Limits.{InRange}
 use Rattle.theory.proofs.Accepted.{accepted}
 use Rattle.rows.specs.Rows.{lab_of}
 use Rattle.rows.specs.Table.{parent_of, query, query_of, QueryTable}
+use Rattle.rows.specs.declared.TreeRows.{TreeRows}
 use Rattle.rows.proofs.Table.{length_table, at_table, live_below, rows_some}
 use Rattle.glue.specs.declared.trees.Built.{Built}
 use Rattle.glue.specs.Trees.{kept, built_of}
@@ -73,6 +74,5 @@ module _ (word P L : List ℕ) (o : code.Option Built) (r : Built) (er : r ≡ k
       (subst (RowsIn InRange) b (plain_labels InRange e a.1)) (subst TreeO b (means_tree (pairs e) (plain e) (plain_means e)))
 
   -- rows of the table's tree are rows of the word's
-  pub built_rows : (F : Option Query → Forest Tag) {code mark kids span up : List ℕ} {m : ℕ}
-      → RowsAre (F (query_of P L r.rows r.s r.d)) code mark kids span up m → RowsOf (λ e. F (plain e)) word code mark kids span up m
-  built_rows F A = record { rows = A.rows; tree = λ e w. A.tree ∙ ap F (sym (plain_built e w)); room = A.room }
+  pub built_rows : (F : Option Query → Forest Tag) {t : TreeRows} → RowsAre (F (query_of P L r.rows r.s r.d)) t → RowsOf (λ e. F (plain e)) word t
+  built_rows F A = record { rows = A.rows; tree = λ e w. A.tree ∙ ap F (sym (plain_built e w)) }

@@ -5,11 +5,12 @@ use Prim.Native.Nat.{ℕ}
 use Rattle.meaning.specs.Expression.{Expr}
 use Rattle.meaning.specs.Tree.{Forest, Tag}
 use Rattle.theory.proofs.Once.{value_same}
+use Rattle.rows.specs.declared.TreeRows.{TreeRows}
 use Rattle.rows.proofs.Unique.{SameBelow, rows_unique}
 use Rattle.query.specs.Trees.{Accepted, RowsOf}
 
-pub tree_unique : (f : Expr → Forest Tag) (word code mark kids span up code' mark' kids' span' up' : List ℕ) (n n' : ℕ) → Accepted word
-    → RowsOf f word code mark kids span up n → RowsOf f word code' mark' kids' span' up' n'
-    → (n ≡ n') × SameBelow n code code' × SameBelow n mark mark' × SameBelow n kids kids' × SameBelow n span span' × SameBelow n up up'
-tree_unique f word code mark kids span up code' mark' kids' span' up' n n' (e, a) r r' =
-    rows_unique code mark kids span up code' mark' kids' span' up' n n' r.rows r'.rows (value_same (r.tree e a) (r'.tree e a))
+pub tree_unique : (f : Expr → Forest Tag) (word : List ℕ) (t t' : TreeRows) → Accepted word → RowsOf f word t → RowsOf f word t'
+    → (t.len ≡ t'.len) × SameBelow t.len t.code t'.code × SameBelow t.len t.mark t'.mark × SameBelow t.len t.kids t'.kids
+    × SameBelow t.len t.span t'.span × SameBelow t.len t.up t'.up
+tree_unique f word t t' (e, a) r r' =
+    rows_unique t.code t.mark t.kids t.span t.up t'.code t'.mark t'.kids t'.span t'.up t.len t'.len r.rows r'.rows (value_same (r.tree e a) (r'.tree e a))

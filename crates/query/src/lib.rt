@@ -2,7 +2,6 @@
 // takes longer than most of the work on a short word.
 #![tactic(auto)]
 
-ghost use Rattle.rows.specs.Rows.{Room};
 ghost use Rattle.meaning.specs.Gluing.{plain};
 ghost use Rattle.rows.specs.Table.{image_tree};
 ghost use Rattle.query.specs.Trees.{Accepted, RowsOf};
@@ -10,37 +9,35 @@ ghost use Rattle.query.specs.Trees.{Accepted, RowsOf};
 use glue::trees::kept;
 use limits::most::MOST_NODES;
 use pool::build::{POOL_ROWS, build};
-use rows::{Codes, Links, Marks};
+use rows::TreeRows;
+use tree::{Lists, Query, query_rows};
 
-// The plain tree, or the minimal tree, as rows in image order. Returns how many there are.
-pub fn word_rows(
-    folded: bool,
-    word: &[u8],
-    code: &mut Codes,
-    mark: &mut Marks,
-    kids: &mut Links,
-    span: &mut Links,
-    up: &mut Links,
-) -> usize
-    requires { Accepted word.now × Room code.old mark.old kids.old span.old up.old }
-    ensures { RowsOf (λ e. image_tree folded (plain e)) word.now
-        code.new mark.new kids.new span.new up.new result }
+// The plain tree, or the minimal tree, as rows in image order.
+pub fn word_rows(folded: bool, word: &[u8], rows: &mut TreeRows)
+    requires { Accepted word.now }
+    ensures { RowsOf (λ e. image_tree folded (plain e)) word.now rows.new }
 {
     let mut parent = [0u16; POOL_ROWS];
     let mut label = [0u32; POOL_ROWS];
-    let mut first = [0u16; MOST_NODES + 1];
-    let mut next = [0u16; MOST_NODES + 1];
+    let mut lists = Lists {
+        first: [0; MOST_NODES + 1],
+        next: [0; MOST_NODES + 1],
+    };
     let mut row = [0u16; MOST_NODES];
     let built = kept(build(
         word,
         &mut parent,
         &mut label,
-        &mut first,
-        &mut next,
+        &mut lists.first,
+        &mut lists.next,
         &mut row,
     ));
-    tree::query_rows(
-        folded, &parent, &label, built.rows, built.s, built.d, &mut first, &mut next, code, mark,
-        kids, span, up,
-    )
+    let query = Query {
+        parent: &parent,
+        label: &label,
+        n: built.rows,
+        s: built.s,
+        d: built.d,
+    };
+    query_rows(folded, query, &mut lists, rows);
 }

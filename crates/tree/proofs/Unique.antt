@@ -1,14 +1,13 @@
 -- "That no second answer fits is itself a proved statement": of the rows of a table's tree.
 use mathlib.Core.Path.{◌≡◌}
-use mathlib.Core.List.{List}
-use Prim.Native.Nat.{ℕ}
 use Rattle.meaning.specs.Tree.{Forest, Tag}
 use Rattle.theory.proofs.Once.{value_same}
+use Rattle.rows.specs.declared.TreeRows.{TreeRows}
 use Rattle.rows.proofs.Unique.{SameBelow, rows_unique}
 use Rattle.tree.specs.Tables.{RowsAre}
 
-pub rows_are_unique : (T : Forest Tag) (code mark kids span up code' mark' kids' span' up' : List ℕ) (n n' : ℕ)
-    → RowsAre T code mark kids span up n → RowsAre T code' mark' kids' span' up' n'
-    → (n ≡ n') × SameBelow n code code' × SameBelow n mark mark' × SameBelow n kids kids' × SameBelow n span span' × SameBelow n up up'
-rows_are_unique T code mark kids span up code' mark' kids' span' up' n n' r r' =
-    rows_unique code mark kids span up code' mark' kids' span' up' n n' r.rows r'.rows (value_same r.tree r'.tree)
+pub rows_are_unique : (T : Forest Tag) (t t' : TreeRows) → RowsAre T t → RowsAre T t'
+    → (t.len ≡ t'.len) × SameBelow t.len t.code t'.code × SameBelow t.len t.mark t'.mark × SameBelow t.len t.kids t'.kids
+    × SameBelow t.len t.span t'.span × SameBelow t.len t.up t'.up
+rows_are_unique T t t' r r' =
+    rows_unique t.code t.mark t.kids t.span t.up t'.code t'.mark t'.kids t'.span t'.up t.len t'.len r.rows r'.rows (value_same r.tree r'.tree)

@@ -1,18 +1,29 @@
 // From a table that is a tree query to its rows in image order: the plain tree, and the minimal tree. No rows: empty.
-// What a caller has read, in whatever language, it puts into such a table. The tables to work in are lent, so that a caller may use them before.
+// What a caller has read, in whatever language, it puts into such a table. The lists to work in are lent, so that a caller may use them before.
 #![tactic(auto)]
 
-ghost use Rattle.std.specs.Prelude.{◌≡◌, List, ℕ, suc, ◌<◌, ◌≤◌, length, get_or};
+ghost use Rattle.std.specs.Prelude.{◌≡◌, ℕ, ◌<◌, ◌≤◌, length, get_or};
 ghost use Rattle.meaning.specs.Limits.{most_nodes};
 ghost use Rattle.meaning.specs.Tree.{plain_tree};
 ghost use Rattle.meaning.specs.Image.{ordered};
-ghost use Rattle.rows.specs.Rows.{Rows, Room, tree_rows};
-ghost use Rattle.rows.specs.Table.{QueryTable, query_of, table_tree, left_of, image_tree};
-ghost use Rattle.order.specs.Contract.{Lent};
-ghost use Rattle.tree.specs.Tables.{Ends, RowsAre, Sortable};
+ghost use Rattle.rows.specs.Table.{table_tree, left_of, image_tree};
+ghost use Rattle.rows.specs.Trees.{IsTree, tree_of};
+ghost use Rattle.tree.specs.Tables.{IsQuery, query_at, Ends, RowsAre, Sortable};
 
 use limits::most::MOST_NODES;
-use rows::{Codes, Links, Marks, Starts};
+pub use order::Lists;
+use order::Table;
+use rows::{Links, Marks, Starts, TreeRows};
+
+// A table that is a tree query: the parents and label codes of its first n rows, and its nodes s and d. No rows: empty.
+#[derive(Clone, Copy)]
+pub struct Query<'a> {
+    pub parent: &'a [u16],
+    pub label: &'a [u32],
+    pub n: usize,
+    pub s: usize,
+    pub d: usize,
+}
 
 // Marks s and d among the first n nodes, which bear no mark: bit 0 is s, bit 1 is d.
 fn mark_ends(mark: &mut Marks, n: usize, s: usize, d: usize)
@@ -26,137 +37,70 @@ fn mark_ends(mark: &mut Marks, n: usize, s: usize, d: usize)
     mark[d] = mark[d] | 2;
 }
 
-// The tree with brothers in the order of the table. The tables `first` and `next` are lent to work in, here and below.
-fn laid_rows(
-    parent: &[u16],
-    label: &[u32],
-    n: usize,
-    s: usize,
-    d: usize,
-    first: &mut Starts,
-    next: &mut Starts,
-    code: &mut Codes,
-    mark: &mut Marks,
-    kids: &mut Links,
-    span: &mut Links,
-    up: &mut Links,
-)
-    requires { QueryTable parent.now label.now n s d × Lent first.old next.old
-        × Room code.old mark.old kids.old span.old up.old }
-    ensures { RowsAre (plain_tree (query_of parent.now label.now n s d))
-        code.new mark.new kids.new span.new up.new n
-        × Lent first.new next.new }
+// The tree with brothers in the order of the table.
+fn laid_rows(query: Query<'_>, lists: &mut Lists, rows: &mut TreeRows)
+    requires { IsQuery query }
+    ensures { RowsAre (plain_tree (query_at query.entry)) rows.new }
 {
-    let mut ends = [0u8; MOST_NODES];
-    mark_ends(&mut ends, n, s, d);
-    order::tree_rows(
-        parent, label, &ends, n, first, next, code, mark, kids, span, up,
-    );
+    let mut mark = [0u8; MOST_NODES];
+    mark_ends(&mut mark, query.n, query.s, query.d);
+    let table = Table {
+        parent: query.parent,
+        code: query.label,
+        mark: &mark,
+        n: query.n,
+    };
+    order::tree_rows(table, lists, rows);
 }
 
-// The tree of a table whose parents stand before their children, with brothers in image order.
-fn ordered_rows(
-    parent: &Links,
-    label: &Codes,
-    ends: &Marks,
-    n: usize,
-    first: &mut Starts,
-    next: &mut Starts,
-    code: &mut Codes,
-    mark: &mut Marks,
-    kids: &mut Links,
-    span: &mut Links,
-    up: &mut Links,
-)
-    requires { Sortable parent.now label.now ends.now n × Lent first.old next.old
-        × Room code.old mark.old kids.old span.old up.old }
-    ensures { RowsAre (ordered (table_tree parent.now label.now ends.now n))
-        code.new mark.new kids.new span.new up.new n }
-{
-    let mut key = [0u64; MOST_NODES];
-    order::image_rows(
-        parent, label, ends, n, first, next, &mut key, code, mark, kids, span, up,
-    );
-}
-
-// The rows that are left of n rows, all or those that folding to the end leaves, moved together as a table.
-fn left_rows(
-    folded: bool,
-    code: &mut Codes,
-    mark: &mut Marks,
-    span: &Links,
-    up: &Links,
-    n: usize,
-    child: &mut Starts,
-    parent: &mut Links,
-    moved: &mut Links,
-) -> usize
-    requires { ((kids : List ℕ) × Rows code.old mark.old kids span.now up.now n)
-        × (length child.old ≡ suc most_nodes) × (length parent.old ≡ most_nodes) × (length moved.old ≡ most_nodes) }
-    ensures { Sortable parent.new code.new mark.new result
-        × (ordered (table_tree parent.new code.new mark.new result)
-        ≡ ordered (left_of folded (tree_rows code.old mark.old span.now n)))
-        × (length child.new ≡ suc most_nodes) × (length moved.new ≡ most_nodes) }
+// The rows that are left, all or those that folding to the end leaves, moved together, and the parent of each. Their numbers of children and their
+// spans mean nothing until they are put in order. The table `child` is lent to work in.
+fn left_rows(folded: bool, rows: &mut TreeRows, child: &mut Starts, parent: &mut Links)
+    requires { IsTree rows.old }
+    ensures { let r = rows.new in
+        Sortable parent.new r.code r.mark r.len
+        × (ordered (table_tree parent.new r.code r.mark r.len) ≡ ordered (left_of folded (tree_of rows.old))) }
 {
     if !folded {
-        *parent = *up;
-        return n;
+        *parent = rows.up;
+        return;
     }
-    fold::fold_rows(code, mark, span, n, child);
-    fold::keep_rows(code, mark, span, up, n, parent, moved)
+    fold::fold_rows(&rows.code, &mut rows.mark, &rows.span, rows.len, child);
+    rows.len = fold::keep_rows(
+        &mut rows.code,
+        &mut rows.mark,
+        &rows.span,
+        &rows.up,
+        rows.len,
+        parent,
+        &mut rows.kids,
+    );
 }
 
-// The plain tree, or the minimal tree: laid out, folded to the end if it is to be, then put in order. Returns how many rows it has.
-pub fn query_rows(
-    folded: bool,
-    parent: &[u16],
-    label: &[u32],
-    n: usize,
-    s: usize,
-    d: usize,
-    first: &mut Starts,
-    next: &mut Starts,
-    code: &mut Codes,
-    mark: &mut Marks,
-    kids: &mut Links,
-    span: &mut Links,
-    up: &mut Links,
-) -> usize
-    requires { QueryTable parent.now label.now n s d × Lent first.old next.old
-        × Room code.old mark.old kids.old span.old up.old }
-    ensures { RowsAre (image_tree folded (query_of parent.now label.now n s d))
-        code.new mark.new kids.new span.new up.new result }
+// The tree of rows with these parents, who stand before their children, with brothers in image order. The rows are written over their own place, from
+// copies of their label codes and marks.
+fn ordered_rows(parent: &Links, lists: &mut Lists, rows: &mut TreeRows)
+    requires { Sortable parent.now rows.old.code rows.old.mark rows.old.len }
+    ensures { RowsAre (ordered (table_tree parent.now rows.old.code rows.old.mark rows.old.len)) rows.new }
 {
-    let mut above = [0u16; MOST_NODES];
-    let mut labels = [0u32; MOST_NODES];
-    let mut marks = [0u8; MOST_NODES];
-    laid_rows(
+    let code = rows.code;
+    let mark = rows.mark;
+    let table = Table {
         parent,
-        label,
-        n,
-        s,
-        d,
-        first,
-        next,
-        &mut labels,
-        &mut marks,
-        kids,
-        span,
-        up,
-    );
-    let m = left_rows(
-        folded,
-        &mut labels,
-        &mut marks,
-        span,
-        up,
-        n,
-        next,
-        &mut above,
-        kids,
-    );
-    ordered_rows(
-        &above, &labels, &marks, m, first, next, code, mark, kids, span, up,
-    );
-    m
+        code: &code,
+        mark: &mark,
+        n: rows.len,
+    };
+    order::image_rows(table, lists, rows);
+}
+
+// The plain tree, or the minimal tree: laid out, folded to the end if it is to be, then put in order.
+pub fn query_rows(folded: bool, query: Query<'_>, lists: &mut Lists, rows: &mut TreeRows)
+    requires { IsQuery query }
+    ensures { RowsAre (image_tree folded (query_at query.entry)) rows.new }
+{
+    let mut parent = [0u16; MOST_NODES];
+    laid_rows(query, lists, rows);
+    left_rows(folded, rows, &mut lists.next, &mut parent);
+    ordered_rows(&parent, lists, rows);
 }

@@ -4,15 +4,12 @@ use Rattle.query.proofs.Laws.{built_table, built_rows}
 use Rattle.query.proofs.word_rows.Goals as goal
 
 pub build-requires : goal.build-requires
-build-requires c = record { accepted = c.requires.0; sizes = (omega arith, omega arith, omega arith, omega arith, omega arith) }
+build-requires c = record { accepted = c.requires; sizes = (omega arith, omega arith, omega arith, omega arith, omega arith) }
 
 pub query_rows-requires : goal.query_rows-requires
 query_rows-requires c =
-    let p = c.requires in let b = c.build in let t = b.new in let r = c.kept-built in let k = b.auto in (
-      built_table _ t.parent t.label b.result r.result r.ensures b.ensures p.0 (omega (arith, k.parent)) (omega (arith, k.label)),
-      record { firsts = k.first; nexts = k.s },
-      p.1,
-    )
+    let b = c.build in let t = b.new in let r = c.kept-built in let k = b.auto in
+    built_table _ t.parent t.label b.result r.result r.ensures b.ensures c.requires (omega (arith, k.parent)) (omega (arith, k.label))
 
 pub returns : goal.returns
 returns c =

@@ -5,14 +5,12 @@ use Rattle.tree.proofs.Laws.{ends_inside, marked_table, marked_tree}
 use Rattle.tree.proofs.laid_rows.Goals as goal
 
 pub mark_ends-requires : goal.mark_ends-requires
-mark_ends-requires c = let q = c.requires.0 in (q.few, q.few, ends_inside _ _ _ _ _ q, λ i l. get_or-replicate 256 i 0 0 (omega (arith, q.few)))
+mark_ends-requires c = let q = c.requires in (q.few, q.few, ends_inside _ _ _ _ _ q, λ i l. get_or-replicate 256 i 0 0 (omega (arith, q.few)))
 
 pub tree_rows-requires : goal.tree_rows-requires
-tree_rows-requires c = let p = c.requires in let m = c.mark_ends.ensures in (marked_table _ _ _ _ _ p.0 _ (omega (arith, m.1, p.0.few)) m.0, p.1, p.2)
+tree_rows-requires c = let q = c.requires in let m = c.mark_ends.ensures in marked_table _ _ _ _ _ q _ (omega (arith, m.1, q.few)) m.0
 
 pub returns : goal.returns
 returns c =
-    let q = c.requires.0 in let m = c.mark_ends.ensures in let t = c.tree_rows.ensures in (
-      record { rows = t.0; tree = t.1 ∙ marked_tree _ _ _ _ _ q _ (omega (arith, m.1, q.few)) m.0; room = t.2 },
-      t.3,
-    )
+    let q = c.requires in let m = c.mark_ends.ensures in let t = c.tree_rows.ensures in
+    record { rows = t.0; tree = t.1 ∙ marked_tree _ _ _ _ _ q _ (omega (arith, m.1, q.few)) m.0 }

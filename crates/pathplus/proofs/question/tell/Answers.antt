@@ -7,9 +7,9 @@ use Rattle.pathplus.proofs.question.tell.Goals as goal
 pub taken-requires : goal.taken-requires
 taken-requires c =
     let (acc, N) = c.requires in
-    (record { kids = _; query = query_rows Minimal c.word_rows-rows.ensures acc }, N)
+    (record { kids = _; query = query_rows Minimal c.word_rows.ensures acc }, N)
 
 pub returns : goal.returns
 returns c =
     let (acc, N) = c.requires in
-    selects_told _ acc.1 N (c.word_rows-rows.ensures.tree acc.0 acc.1) c.taken.ensures
+    selects_told _ acc.1 N (c.word_rows.ensures.tree acc.0 acc.1) c.taken.ensures

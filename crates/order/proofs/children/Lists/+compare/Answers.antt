@@ -1,5 +1,5 @@
 use Rattle.order.proofs.Links.{pending, none_none, none_some, some_none, below_pending, by_less, by_more, by_before, by_after, pending_next, goes_along}
-use Rattle.order.proofs.sorting.+compare.Goals as goal
+use Rattle.order.proofs.children.Lists.+compare.Goals as goal
 
 pub loop-a-init : goal.loop-a-init
 loop-a-init t c = let p = c.requires in pending _ _ _ _ _ _ p.1 p.2
@@ -15,24 +15,24 @@ returns-then-l-k t c = by_more c.loop-a.invariant c.loop-a-test.true c.if-n-b.fa
 
 pub compare-o-requires : goal.compare-o-requires
 compare-o-requires t c =
-    let h = below_pending c.loop-a.invariant c.loop-a-test.true c.if-n-b.false c.row_at.ensures.0 c.row_at-in-loop-a.ensures.0 c.decreases in
+    let h = below_pending c.loop-a.invariant c.loop-a-test.true c.if-n-b.false c.at.ensures.0 c.at-in-loop-a.ensures.0 c.decreases in
     (h.0, (c.requires.0, h.1, h.2))
 
 pub returns-in-Before : goal.returns-in-Before
 returns-in-Before t c =
-    by_before c.loop-a.invariant c.loop-a-test.true c.if-n-b.false c.if-k-l.false c.if-l-k.false c.row_at.ensures.0 c.row_at-in-loop-a.ensures.0 c.compare-o.ensures c.in-Before.is
+    by_before c.loop-a.invariant c.loop-a-test.true c.if-n-b.false c.if-k-l.false c.if-l-k.false c.at.ensures.0 c.at-in-loop-a.ensures.0 c.compare-o.ensures c.in-Before.is
 
 pub returns-in-After : goal.returns-in-After
 returns-in-After t c =
-    by_after c.loop-a.invariant c.loop-a-test.true c.if-n-b.false c.if-k-l.false c.if-l-k.false c.row_at.ensures.0 c.row_at-in-loop-a.ensures.0 c.compare-o.ensures c.in-After.is
+    by_after c.loop-a.invariant c.loop-a-test.true c.if-n-b.false c.if-k-l.false c.if-l-k.false c.at.ensures.0 c.at-in-loop-a.ensures.0 c.compare-o.ensures c.in-After.is
 
 pub loop-a-smaller : goal.loop-a-smaller
-loop-a-smaller t c = (goes_along c.loop-a.invariant.one c.loop-a-test.true c.row_at-a.ensures.0).1
+loop-a-smaller t c = (goes_along c.loop-a.invariant.one c.loop-a-test.true c.at-a.ensures.0).1
 
 pub loop-a-preserved : goal.loop-a-preserved
 loop-a-preserved t c =
-    pending_next c.loop-a.invariant c.loop-a-test.true c.if-n-b.false c.if-k-l.false c.if-l-k.false c.row_at.ensures.0 c.row_at-in-loop-a.ensures.0 c.compare-o.ensures c.in-Same.is
-    c.row_at-a.ensures.0 c.row_at-b.ensures.0
+    pending_next c.loop-a.invariant c.loop-a-test.true c.if-n-b.false c.if-k-l.false c.if-l-k.false c.at.ensures.0 c.at-in-loop-a.ensures.0 c.compare-o.ensures c.in-Same.is
+    c.at-a.ensures.0 c.at-b.ensures.0
 
 pub returns-then-b-n : goal.returns-then-b-n
 returns-then-b-n t c = none_some c.loop-a.invariant c.loop-a-test.false c.if-b-n.true
