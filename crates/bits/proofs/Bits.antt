@@ -1,21 +1,24 @@
 -- Laws of bits: what an or, an and, a shift and a store do to the bits of a byte and of a row.
 use mathlib.Core.Path.{◌≡◌, refl, sym, ap, ◌∙◌}
-use mathlib.Core.List.{List}
-use mathlib.Core.Bool.{Bool, true, false, not, cond, ◌&&◌, and-true, and-false}
+use mathlib.Core.List.{List, ◌++◌}
+use mathlib.Core.Bool.{Bool, true, false, not, cond, ◌&&◌, and-true}
 use Prim.Native.Nat.{ℕ, zero, suc, ◌+◌, ◌-◌, ◌*◌, ◌/◌, ◌%◌, ◌^◌, ◌≤◌, ◌<◌}
 use native.Mathlib.Omega.{arith}
 use native.Mathlib.Numerals.{add-one}
 use native.Mathlib.Nat.{div-eq_of_lt, one-mul, zero-div}
 use native.Mathlib.Decide.{ℕ_discrete, dec_lt}
-use lib.ListN.{length, get_or, set, length-set}
+use lib.ListN.{length, get_or, set, length-set, drop, replicate}
 use lib.Seq.{get_or-set_same, get_or-set_other}
 use lib.Dec.{eqb, lit<}
 use lib.Pow.{pow-lt, pow-add, shl-shr, shl_exact, shr-shr}
 use lib.Bits.{bit_and, bit_or, and_mask, and_shr, and_mod, or_shr, or_mod, or_zero_r}
 use borrow.Author.Tests.{eq-eqb, ne_eqb, eqb-true, not-true}
+use Rattle.std.proofs.lemmas.List.{length-append, length-replicate, length-drop, get_or_append_left, get_or-append_right, get_or-drop, get_or-replicate}
+use Rattle.std.proofs.lemmas.List.Edits.{get_or-between}
+use Rattle.std.specs.List.{between}
 use Rattle.meaning.specs.Matching.{bit_at}
 use Rattle.theory.proofs.Look.{never}
-use Rattle.bits.specs.Bits.{bit_of, all_to, row_clear, BitKept, OnlyRow, BitSet, Sifted, Met, Cleared}
+use Rattle.bits.specs.Bits.{bit_of, all_to, row_clear, BitKept, OnlyRow, BitSet, Met, Cleared}
 
 -- ------------------------------------------------------------------ bits of a byte
 -- (n >> ..) & 1
@@ -126,20 +129,6 @@ keep_off b k on l e =
       other = λ j lj ne. rw (and_of b (255 - 2 ^ k) j, mask_other k j l lj ne) (and-true (bit_of b j));
     })
 
-pub keep_on : (b k : ℕ) (on : Bool) → on ≡ true → BitKept b k on b
-keep_on b k on e = rw e (record { here = sym (and-true (bit_of b k)); other = λ j lj ne. refl })
-
-pub sifted_none : (b : ℕ) (g : ℕ → Bool) → Sifted b g 0 b
-sifted_none b g = record { low = λ j l. absurd (omega arith); high = λ j l m. refl }
-
-pub sifted_more : (b : ℕ) (g : ℕ → Bool) (k r d : ℕ) → k < 8 → Sifted b g k r → BitKept r k (g k) d → Sifted b g (k + 1) d
-sifted_more b g k r d l t p =
-    record { low = λ j lj. go j lj (ℕ_discrete j k); high = λ j lj m. p.other j m (λ e. omega arith) ∙ t.high j (omega arith) m }
-  where
-    go : (j : ℕ) → j < k + 1 → Dec (j ≡ k) → bit_of d j ≡ (bit_of b j && g j)
-    go j lj (yes e) = rw e (p.here ∙ ap (λ (x : Bool). x && g k) (t.high k (omega arith) l))
-    go j lj (no e) = p.other j (omega arith) e ∙ t.low j (omega arith)
-
 -- the byte in which all eight bits are set
 pub all_bits : (k : ℕ) → k < 8 → bit_of 255 k ≡ true
 unfolding all_to bit_of
@@ -205,9 +194,6 @@ bit_set w u v lv lw = rw (one_shl (v % 8) (omega arith)) (go (bit_or (get_or w (
         other x ne (no q) = store_other w u (v / 8) o (omega arith) lw x q
 
 -- ------------------------------------------------------------------ whole rows
-pub met_none : (w : List ℕ) (u : ℕ) (h : List ℕ) → Met w u h 0 w
-met_none w u h = record { only = only_refl w u; both = λ v l. absurd (omega arith); behind = λ v l m. refl }
-
 pub met_more : (w : List ℕ) (u : ℕ) (h b : List ℕ) (i o : ℕ) → i < 128 → 128 * u + 128 ≤ length w
     → ((k : ℕ) → k < 8 → bit_of o k ≡ (bit_of (get_or b (128 * u + i) 0) k && eqb (get_or h (8 * i + k) 0) 1)) → Met w u h (8 * i) b
     → Met w u h (8 * (i + 1)) (set b (128 * u + i) o)
@@ -232,18 +218,12 @@ met_more w u h b i o l lw f m = go (rw m.only.same lw)
 pub flagged_none : (b : ℕ) (g : ℕ → Bool) → b ≡ 0 → (k : ℕ) → k < 8 → bit_of 0 k ≡ (bit_of b k && g k)
 flagged_none b g e k l = rw (e, zero_bit k)
 
--- a byte more is 0, or it is not
-pub clear_not : (clear : Bool) (b : ℕ) → (b ≡ 0 → ⊥) → false ≡ (clear && eqb b 0)
-clear_not clear b ne = sym (rw (ne_eqb b 0 ne) (and-false clear))
-
-pub clear_too : (clear : Bool) (b : ℕ) → b ≡ 0 → clear ≡ (clear && eqb b 0)
-clear_too clear b e = sym (rw (eq-eqb b 0 e) (and-true clear))
-
 -- the first bytes of row u are 0, or not, and one more
-pub more_clear : (w : List ℕ) (u e : ℕ) (clear d : Bool) → clear ≡ all_to e (λ i. eqb (get_or w (128 * u + i) 0) 0)
-    → d ≡ (clear && eqb (get_or w (128 * u + e) 0) 0) → d ≡ all_to (e + 1) (λ i. eqb (get_or w (128 * u + i) 0) 0)
+pub more_clear : (w : List ℕ) (u e : ℕ) → e < 128
+    → (all_to e (λ i. eqb (get_or w (128 * u + i) 0) 0) && eqb (get_or (between (128 * u) (128 * u + 128) w) e 0) 0)
+    ≡ all_to (e + 1) (λ i. eqb (get_or w (128 * u + i) 0) 0)
 unfolding all_to
-more_clear w u e clear d h q = rw (add-one e, ← h) q
+more_clear w u e l = rw (add-one e, get_or-between w (128 * u) (128 * u + 128) e 0 (omega arith))
 
 -- bytes that are 0 have no bits
 pub no_bits : (w : List ℕ) (u e : ℕ) → ((i : ℕ) → i < e → get_or w (128 * u + i) 0 ≡ 0) → (v : ℕ) → v < 8 * e → bit_at w u v ≡ false
@@ -255,17 +235,20 @@ unfolding row_clear
 row_clear_lem w u e v l =
     no_bits w u 128 (λ i m. eqb-true (get_or w (128 * u + i) 0) 0 (all_to_lem 128 (λ j. eqb (get_or w (128 * u + j) 0) 0) e i m)) v (omega arith)
 
-pub clear_none : (w : List ℕ) → Cleared w 0 w
-clear_none w = record { same = refl; clear = λ i l. absurd (omega arith); later = λ i l. refl }
-
-pub clear_more : (w b : List ℕ) (e : ℕ) → e < length w → Cleared w e b → Cleared w (e + 1) (set b e 0)
-clear_more w b e l h =
-    record {
-      same = length-set b e 0 ∙ h.same;
-      clear = λ i li. go i li (ℕ_discrete i e);
-      later = λ i li. get_or-set_other b e i 0 0 (λ q. omega arith) ∙ h.later i (omega arith);
-    }
+-- a front of zeros, and the rest
+pub front_clear : (w z : List ℕ) (e k : ℕ) → e ≤ length w → k ≡ e → z ≡ replicate k 0 → Cleared w e (z ++ drop e w)
+front_clear w z e k h d q =
+    rw (q, d)
+    (record {
+      same = omega (arith, length-append zeros (drop e w), n, length-drop e w);
+      clear = λ i m. rw (get_or_append_left zeros (drop e w) 0 i (omega (arith, n))) (get_or-replicate e i 0 0 m);
+      later = λ i m.
+          let z : e + (i - e) ≡ i = omega arith in
+          rw (get_or-append_right zeros (drop e w) e i 0 n m, get_or-drop e w (i - e) 0, z);
+    })
   where
-    go : (i : ℕ) → i < e + 1 → Dec (i ≡ e) → get_or (set b e 0) i 0 ≡ 0
-    go i li (yes q) = rw q (get_or-set_same b e 0 0 (rw h.same l))
-    go i li (no q) = get_or-set_other b e i 0 0 q ∙ h.clear i (omega arith)
+    zeros : List ℕ
+    zeros = replicate e 0
+
+    n : length zeros ≡ e
+    n = length-replicate {A = ℕ} e 0

@@ -54,10 +54,8 @@ fn flagged(b: u8, flags: &[u8], from: usize) -> u8
         return 0;
     }
     let mut r = b;
-    let mut k: usize = 0;
-    while k < 8 {
+    for k in 0..8 {
         r = keep_bit(r, k, flags[from + k] == 1);
-        k += 1;
     }
     r
 }
@@ -68,46 +66,28 @@ pub fn meet(w: &mut [u8], u: usize, flags: &[u8], bytes: usize)
     ensures { Met w.old u flags.now (8 * bytes) w.new }
 {
     let at = 128 * u;
-    let mut i: usize = 0;
-    while i < bytes {
+    for i in 0..bytes {
         w[at + i] = flagged(w[at + i], flags, 8 * i);
-        i += 1;
     }
 }
 
-// Whether the bytes up to here are 0, with one byte more.
-fn still_clear(clear: bool, b: u8) -> bool
-    ensures { result ≡ (clear && eqb b 0) }
-{
-    if b != 0 {
-        return false;
-    }
-    clear
-}
-
-// Whether row u has no bit set. It reads the whole row: the compiler makes a few vector instructions of it.
+// Whether row u has no bit set. It reads the whole row, where `all` would stop early: the compiler makes a few vector instructions of it.
 pub fn row_clear(w: &[u8], u: usize) -> bool
     requires { (u < 256) × (128 * u + 128 ≤ length w.now) }
     ensures { result ≡ row_clear w.now u }
 {
     let at = 128 * u;
     let mut clear = true;
-    let mut i: usize = 0;
-    while i < 128 {
-        clear = still_clear(clear, w[at + i]);
-        i += 1;
+    for b in &w[at..at + 128] {
+        clear &= *b == 0;
     }
     clear
 }
 
-// Clears the 256 rows. A plain loop of its own: the compiler makes a block fill of it.
+// Clears the 256 rows.
 pub fn clear(w: &mut [u8])
     requires { 32768 ≤ length w.old }
     ensures { Cleared w.old 32768 w.new }
 {
-    let mut i: usize = 0;
-    while i < 32768 {
-        w[i] = 0;
-        i += 1;
-    }
+    w[..32768].fill(0);
 }

@@ -6,20 +6,19 @@ use mathlib.Core.List.{List}
 use mathlib.Core.Bool.{Bool, true, false, ◌&&◌}
 use Prim.Native.Nat.{ℕ, zero, suc, ◌+◌, ◌-◌, ◌*◌, ◌/◌, ◌%◌, ◌≤◌, ◌<◌}
 use native.Mathlib.Omega.{arith}
-use native.Mathlib.Decide.{ℕ_discrete, dec_lt}
+use native.Mathlib.Decide.{ℕ_discrete}
 use lib.ListN.{length, get_or, set}
 use lib.Dec.{eqb}
 use borrow.Author.Tests.{eqb-true, eq-eqb, ne_eqb}
-use Rattle.meaning.specs.Limits.{most_rows}
 use Rattle.meaning.specs.Document.{Doc}
 use Rattle.meaning.specs.Tree.{Forest, Tag}
 use Rattle.meaning.specs.Matching.{bit_at, LaysAt, CanLie}
-use Rattle.bits.specs.Bits.{bit_of, OnlyRow, BitSet, Sifted}
+use Rattle.bits.specs.Bits.{bit_of, Sifted}
 use Rattle.bits.proofs.Bits.{all_bits, store_here, store_other}
 use Rattle.theory.proofs.Look.{never}
 use Rattle.rows.specs.Rows.{tag_at, below, shape, map_t, tree_rows, Holds}
 use Rattle.rows.proofs.Rows.{row_node}
-use Rattle.document.specs.Nodes.{Suits, RowUpTo, RowIs, RowClear}
+use Rattle.document.specs.Nodes.{Suits, RowUpTo}
 
 pub true_false : {A : Type 0} → true ≡ false → A
 true_false e = never cc
@@ -56,9 +55,6 @@ byte_code code L from r l ne p k lk = iff_same (p.low k lk ∙ ap (λ (x : Bool)
         go (no e) = ne_eqb a b e ∙ sym (ne_eqb b a (λ z. e (sym z)))
 
 -- ------------------------------------------------------------------ the row
-pub row_none : (w : List ℕ) (u : ℕ) (P : ℕ → Type 0) → RowClear w u → RowUpTo w u P 0
-row_none w u P h = record { low = λ v l. absurd (omega arith); high = λ v l m. h v m }
-
 pub row_byte : (u : ℕ) (P : ℕ → Type 0) (i : ℕ) (b : List ℕ) (o : ℕ) → i < 128 → 128 * u + 128 ≤ length b
     → ((k : ℕ) → k < 8 → (bit_of o k ≡ true) ↔ P (8 * i + k))
     → RowUpTo b u P (8 * i) → RowUpTo (set b (128 * u + i) o) u P (8 * (i + 1))
@@ -70,30 +66,6 @@ row_byte u P i b o li lb f t =
         let z : 8 * i + v % 8 ≡ v = omega arith in
         iff_same (store_here b u i o li lb v e) (rw z at (f (v % 8) (omega arith)))
     low v l (no e) = iff_same (store_other b u i o li lb v e) (t.low v (omega arith))
-
-pub row_node_on : (w : List ℕ) (u : ℕ) (P : ℕ → Type 0) (v : ℕ) (b : List ℕ) → v < most_rows → P v → BitSet w u v b → RowUpTo w u P v
-    → RowUpTo b u P (v + 1)
-row_node_on w u P v b lv p s t =
-    record { low = λ x l. low x l (ℕ_discrete x v); high = λ x l m. s.other x m (λ e. omega arith) ∙ t.high x (omega arith) m }
-  where
-    low : (x : ℕ) → x < v + 1 → Dec (x ≡ v) → (bit_at b u x ≡ true) ↔ P x
-    low x l (yes e) = rw e (λ _. p, λ _. s.here)
-    low x l (no e) = iff_same (s.other x (omega arith) e) (t.low x (omega arith))
-
-pub row_node_off : (w : List ℕ) (u : ℕ) (P : ℕ → Type 0) (v : ℕ) → v < most_rows → (P v → ⊥) → RowUpTo w u P v → RowUpTo w u P (v + 1)
-row_node_off w u P v lv p t = record { low = λ x l. low x l (ℕ_discrete x v); high = λ x l m. t.high x (omega arith) m }
-  where
-    low : (x : ℕ) → x < v + 1 → Dec (x ≡ v) → (bit_at w u x ≡ true) ↔ P x
-    low x l (yes e) = rw e (λ b. true_false (sym b ∙ t.high v (omega arith) lv), λ y. absurd (p y))
-    low x l (no e) = t.low x (omega arith)
-
-pub row_all : (w : List ℕ) (u code : ℕ) (L : List ℕ) (e : ℕ) (b : List ℕ) → length L ≤ e → OnlyRow w u b → RowUpTo b u (Suits code L) e
-    → RowIs w u (Suits code L) b
-row_all w u code L e b l o t = record { only = o; bits = λ v lv. go v lv (dec_lt v e) }
-  where
-    go : (v : ℕ) → v < most_rows → Dec (v < e) → (bit_at b u v ≡ true) ↔ Suits code L v
-    go v lv (yes d) = t.low v d
-    go v lv (no d) = (λ x. true_false (sym x ∙ t.high v (omega arith) lv), λ (s, _). absurd (omega arith))
 
 -- ------------------------------------------------------------------ what a bit says
 -- of row c of the query, which is its node c in image order

@@ -8,7 +8,7 @@ use native.Mathlib.Omega.{arith}
 use native.Mathlib.Numerals.{add-one}
 use lib.ListN.{length, get_or, drop, drop_of_length-le}
 use lib.Seq.{drop-cons}
-use lib.Dec.{leb, eqb, ltb, leb-suc-suc}
+use lib.Dec.{leb}
 use borrow.Author.Tests.{leb-true, le-leb, lt-leb, eqb-true}
 use Rattle.meaning.specs.Limits.{most_rows}
 use Rattle.meaning.specs.Number.{largest_label}
@@ -16,26 +16,6 @@ use Rattle.meaning.specs.Document.{DocRow, Child, doc_row, label_of, In}
 use Rattle.meaning.specs.Matching.{parent_ok, rows_ok, good_table, doc_of}
 use Rattle.theory.proofs.Look.{never}
 use Rattle.bits.proofs.Bits.{both}
-
--- ------------------------------------------------------------------ one row
-pub row_label : (x p l : ℕ) → largest_label < l → false ≡ (parent_ok x p && leb l largest_label)
-row_label x p l h = sym (rw (lt-leb l largest_label h) (and-false (parent_ok x p)))
-
--- one row more is good, or it is not
-pub good_not : (good r row : Bool) → r ≡ row → r ≡ false → false ≡ (good && row)
-good_not true r row e t = sym t ∙ e
-good_not false r row e t = refl
-
-pub good_too : (good r row : Bool) → r ≡ row → r ≡ true → good ≡ (good && row)
-good_too true r row e t = sym t ∙ e
-good_too false r row e t = refl
-
-pub row_root : (x p l : ℕ) → l ≤ largest_label → x ≡ 0 → eqb p 0 ≡ (parent_ok x p && leb l largest_label)
-row_root x p l h e = sym (rw (le-leb l largest_label h, e) (and-true (eqb p 0)))
-
-pub row_lower : (x p l : ℕ) → l ≤ largest_label → (x ≡ 0 → ⊥) → ltb p x ≡ (parent_ok x p && leb l largest_label)
-row_lower zero p l h e = absurd (e refl)
-row_lower (suc x) p l h e = sym (rw (le-leb l largest_label h) (and-true (leb p x) ∙ sym (leb-suc-suc p x)))
 
 -- ------------------------------------------------------------------ the check from row x on
 rows_length : (n : ℕ) (ps ls : List ℕ) → rows_ok n ps ls ≡ true → length ls ≡ length ps

@@ -21,10 +21,8 @@ fn same_byte(label: u32, labels: &[u32], from: usize) -> u8
     ensures { Sifted 255 (λ k. eqb (get_or labels.now (from + k) 0) label) 8 result }
 {
     let mut b: u8 = 255;
-    let mut k: usize = 0;
-    while k < 8 {
+    for k in 0..8 {
         b = bits::keep_bit(b, k, labels[from + k] == label);
-        k += 1;
     }
     b
 }
@@ -40,28 +38,16 @@ fn label_byte(code: u32, labels: &[u32], from: usize) -> u8
     same_byte(code - 1, labels, from)
 }
 
-// Sets bit v of row u if a label code fits node v.
-fn label_node(w: &mut [u8], u: usize, code: u32, labels: &[u32], v: usize)
-    requires { (u < most_nodes) × (v < most_rows) × (128 * u + 128 ≤ length w.old) × (v < length labels.now)
-        × RowUpTo w.old u (Suits code labels.now) v }
-    ensures { OnlyRow w.old u w.new × RowUpTo w.new u (Suits code labels.now) (v + 1) }
-{
-    if fits_at(code, labels, v) {
-        bits::set_bit(w, u, v);
-        return;
-    }
-}
-
 // The last nodes of row u, those that do not fill a byte, one by one.
 fn label_rest(w: &mut [u8], u: usize, code: u32, labels: &[u32], from: usize)
     requires { (u < most_nodes) × (128 * u + 128 ≤ length w.old) × (length labels.now ≤ most_rows) × (from ≤ length labels.now)
         × RowUpTo w.old u (Suits code labels.now) from }
     ensures { RowIs w.old u (Suits code labels.now) w.new }
 {
-    let mut v = from;
-    while v < labels.len() {
-        label_node(w, u, code, labels, v);
-        v += 1;
+    for v in from..labels.len() {
+        if fits_at(code, labels, v) {
+            bits::set_bit(w, u, v);
+        }
     }
 }
 
@@ -72,10 +58,8 @@ pub fn label_row(w: &mut [u8], u: usize, code: u32, labels: &[u32])
 {
     let at = 128 * u;
     let bytes = labels.len() / 8;
-    let mut i: usize = 0;
-    while i < bytes {
+    for i in 0..bytes {
         w[at + i] = label_byte(code, labels, 8 * i);
-        i += 1;
     }
     label_rest(w, u, code, labels, 8 * bytes);
 }

@@ -6,46 +6,27 @@ use mathlib.Core.Bool.{Bool, true, false, ◌&&◌}
 use Prim.Native.Nat.{ℕ, zero, suc, ◌+◌, ◌-◌, ◌*◌, ◌/◌, ◌≤◌, ◌<◌}
 use native.Mathlib.Omega.{arith}
 use native.Mathlib.Nat.{div-eq_of_lt, lt_of_lt_of_le}
-use native.Mathlib.Decide.{ℕ_discrete, dec_lt}
-use lib.ListN.{length, get_or, set, length-set}
-use lib.Seq.{get_or-set_same, get_or-set_other}
+use native.Mathlib.Decide.{dec_lt}
+use lib.ListN.{length, get_or}
 use lib.Dec.{eqb}
 use lib.Pow.{pow_mono}
 use borrow.Author.Tests.{eqb-true, eq-eqb}
+use Rattle.std.proofs.Math.Logic.{⊎_map}
 use Rattle.meaning.specs.Limits.{most_rows}
 use Rattle.meaning.specs.Matching.{bit_at}
 use Rattle.bits.specs.Bits.{bit_of, Met}
-use Rattle.bits.proofs.Bits.{zero_bit, all_bits, half_bit, byte_bit}
+use Rattle.bits.proofs.Bits.{zero_bit, half_bit, byte_bit}
 use Rattle.document.specs.Nodes.{RowIs}
-use Rattle.matching.specs.Table.{Parents, FromByte, Upto, ParentOf, Added, RowInside}
-use Rattle.document.proofs.Tables.{Good}
+use Rattle.matching.specs.Table.{FromByte, Upto, ParentOf, Added, RowInside}
 use Rattle.document.proofs.Nodes.{true_false, iff_same}
 
-pub good_parents : (P L : List ℕ) → Good P L → Parents P
-good_parents P L G = record { some = G.some; few = G.few; small = λ x l. let z = G.up_to x l in let y = G.few in omega arith }
-
-or_map : {A B C : Type 0} → (B → C) → A ⊎ B → A ⊎ C
-or_map f (inl a) = inl a
-or_map f (inr b) = inr (f b)
-
--- ------------------------------------------------------------------ one node
-pub added_one : (p : ℕ) (h : List ℕ) → p < length h → Added h (λ v. p ≡ v) (set h p 1)
-added_one p h lp = record { same = length-set h p 1; flags = λ v l. go v (ℕ_discrete v p) }
-  where
-    go : (v : ℕ) → Dec (v ≡ p) → (get_or (set h p 1) v 0 ≡ 1) ↔ ((get_or h v 0 ≡ 1) ⊎ (p ≡ v))
-    go v (yes q) = (λ _. inr (sym q), λ _. rw q (get_or-set_same h p 1 0 lp))
-    go v (no q) = (λ t. inl (sym (get_or-set_other h p v 1 0 q) ∙ t), λ x. get_or-set_other h p v 1 0 q ∙ was x)
-      where
-        was : (get_or h v 0 ≡ 1) ⊎ (p ≡ v) → get_or h v 0 ≡ 1
-        was (inl t) = t
-        was (inr r) = absurd (q (sym r))
-
+-- ------------------------------------------------------------------ flags
 -- what is added, said otherwise
 added_same : (h h' : List ℕ) (P Q : ℕ → Type 0) → ((v : ℕ) → P v ↔ Q v) → Added h P h' → Added h Q h'
 added_same h h' P Q f a = record {
   same = a.same;
   flags = λ v l.
-      (λ t. or_map (f v).0 ((a.flags v l).0 t), λ y. (a.flags v l).1 (or_map (f v).1 y));
+      (λ t. ⊎_map (λ y. y) (f v).0 ((a.flags v l).0 t), λ y. (a.flags v l).1 (⊎_map (λ y. y) (f v).1 y));
 }
 
 -- first these, then those
@@ -53,7 +34,7 @@ added_then : (h₀ h h' : List ℕ) (P Q : ℕ → Type 0) → Added h₀ P h �
 added_then h₀ h h' P Q a b = record { same = b.same ∙ a.same; flags = λ v l. (λ t. to v l ((b.flags v l).0 t), λ y. (b.flags v l).1 (from v l y)) }
   where
     to : (v : ℕ) → v < most_rows → (get_or h v 0 ≡ 1) ⊎ Q v → (get_or h₀ v 0 ≡ 1) ⊎ (P v ⊎ Q v)
-    to v l (inl t) = or_map (λ y. inl y) ((a.flags v l).0 t)
+    to v l (inl t) = ⊎_map (λ y. y) (λ y. inl y) ((a.flags v l).0 t)
     to v l (inr y) = inr (inr y)
 
     from : (v : ℕ) → v < most_rows → (get_or h₀ v 0 ≡ 1) ⊎ (P v ⊎ Q v) → (get_or h v 0 ≡ 1) ⊎ Q v
@@ -69,32 +50,7 @@ added_none h Q f = record { same = refl; flags = λ v l. (λ t. inl t, was v) }
     was v (inl t) = t
     was v (inr y) = absurd (f v y)
 
--- ------------------------------------------------------------------ one bit
-pub added_set : (b k p : ℕ) (h h' : List ℕ) → bit_of b k ≡ true → Added h (λ v. p ≡ v) h' → Added h (λ v. (bit_of b k ≡ true) × (p ≡ v)) h'
-added_set b k p h h' e a = added_same h h' (λ v. p ≡ v) (λ v. (bit_of b k ≡ true) × (p ≡ v)) (λ v. (λ q. (e, q), λ (_, q). q)) a
-
-pub added_not : (b k p : ℕ) (h : List ℕ) → bit_of b k ≡ false → Added h (λ v. (bit_of b k ≡ true) × (p ≡ v)) h
-added_not b k p h e = added_none h (λ v. (bit_of b k ≡ true) × (p ≡ v)) (λ v (t, _). true_false (sym t ∙ e))
-
 -- ------------------------------------------------------------------ one byte
-pub upto_none : (Q : ℕ → ℕ → Type 0) (h : List ℕ) → Added h (Upto Q 0) h
-upto_none Q h = added_none h (Upto Q 0) (λ v (k, l, _). omega arith)
-
-pub upto_more : (Q : ℕ → ℕ → Type 0) (h₀ h h' : List ℕ) (e : ℕ) → Added h₀ (Upto Q e) h → Added h (Q e) h' → Added h₀ (Upto Q (e + 1)) h'
-upto_more Q h₀ h h' e a b = added_same h₀ h' (λ v. Upto Q e v ⊎ Q e v) (Upto Q (e + 1)) (λ v. (to v, from v))
-    (added_then h₀ h h' (Upto Q e) (Q e) a b)
-  where
-    to : (v : ℕ) → Upto Q e v ⊎ Q e v → Upto Q (e + 1) v
-    to v (inl (k, l, y)) = (k, omega arith, y)
-    to v (inr y) = (e, omega arith, y)
-
-    from : (v : ℕ) → Upto Q (e + 1) v → Upto Q e v ⊎ Q e v
-    from v (k, l, y) = last (ℕ_discrete k e)
-      where
-        last : Dec (k ≡ e) → Upto Q e v ⊎ Q e v
-        last (yes d) = inr (rw d at y)
-        last (no d) = inl (k, omega arith, y)
-
 -- a byte has eight bits
 byte_bits : (b k : ℕ) → b < 256 → bit_of b k ≡ true → k < 8
 byte_bits b k l e = go (dec_lt k 8)
@@ -114,15 +70,6 @@ whole_byte P h h' b x l a =
 
 pub empty_byte : (P h : List ℕ) (b x : ℕ) → b ≡ 0 → Added h (FromByte P b x) h
 empty_byte P h b x e = rw e (added_none h (FromByte P 0 x) (λ v (k, t, _). true_false (sym t ∙ zero_bit k)))
-
-pub full_inside : (P : List ℕ) (b x : ℕ) → b ≡ 255 → ((k : ℕ) → bit_of b k ≡ true → x + k < length P) → x + 8 ≤ length P
-full_inside P b x e i = let z = i 7 (rw e (all_bits 7 (omega arith))) in omega arith
-
-pub full_byte : (P h h' : List ℕ) (b x : ℕ) → b ≡ 255 → Added h (Upto (λ k v. get_or P (x + k) 0 ≡ v) 8) h' → Added h (FromByte P b x) h'
-full_byte P h h' b x e a =
-    rw e
-    (added_same h h' (Upto (λ k v. get_or P (x + k) 0 ≡ v) 8) (FromByte P 255 x)
-    (λ v. (λ (k, l, z). (k, all_bits k l, z), λ (k, t, z). (k, byte_bits 255 k (omega arith) t, z))) a)
 
 -- ------------------------------------------------------------------ one row
 module _ (w : List ℕ) (c : ℕ) (P : List ℕ) (inside : RowInside w c P) where

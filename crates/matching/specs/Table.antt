@@ -8,12 +8,6 @@ use Rattle.rows.specs.Rows.{tag_at, shape, below, map_t, Holds}
 use Rattle.document.specs.Nodes.{RowClear}
 
 -- ------------------------------------------------------------------ one row
--- the parent numbers can be read and marked
-pub record Parents (parents : List ℕ) : Type 0 where
-  pub some : 1 ≤ length parents
-  pub few : length parents ≤ most_rows
-  pub small : (x : ℕ) → x < length parents → get_or parents x 0 < most_rows
-
 -- a set bit k of the byte stands for node x + k, whose parent is v
 abbrev pub FromByte : List ℕ → ℕ → ℕ → ℕ → Type 0
 FromByte parents b x v = (k : ℕ) × (bit_of b k ≡ true) × (get_or parents (x + k) 0 ≡ v)

@@ -9,8 +9,8 @@ use lib.ListN.{length, get_or}
 use Rattle.meaning.specs.Limits.{most_nodes, most_rows}
 use Rattle.meaning.specs.Tree.{Takes}
 use Rattle.meaning.specs.Matching.{doc_of, bit_at, table_bytes}
-use Rattle.rows.specs.Rows.{Borne, FirstRow, tree_rows}
-use Rattle.rows.proofs.Marks.{single_borne, single_first}
+use Rattle.rows.specs.Rows.{FirstRow, tree_rows}
+use Rattle.rows.proofs.Marks.{single_first}
 use Rattle.pair.specs.Pair.{Asked, Step, OneWay, TwoWays}
 use Rattle.document.proofs.Tables.{good_table_lem}
 use Rattle.document.proofs.Nodes.{true_false}
@@ -31,13 +31,6 @@ never : {A B : Type 0} → A ↔ B → (B → ⊥) → (false ≡ true) ↔ A
 never f n = (λ e. true_false (sym e), λ a. absurd (n (f.0 a)))
 
 module _ {w mark up P : List ℕ} (q : Asked w mark up P) where
-  -- some row is s, some row is d
-  pub borne_s : Borne mark 0
-  borne_s = single_borne mark 0 q.s q.tree.few
-
-  pub borne_d : Borne mark 1
-  borne_d = single_borne mark 1 q.d q.tree.few
-
   -- a row whose parent can be read, and a row and a node at which a bit can
   pub linked : (u : ℕ) → u < q.rows → u < most_nodes
   linked u l = omega (arith, q.tree.few)
@@ -99,10 +92,7 @@ module _ (w mark up P : List ℕ) (m n u x v y : ℕ) (k : Meeting w mark up P m
   pub meeting_not : v < u → x < length P → (Step w u x → ⊥) → (q : Asked w mark up P) → (false ≡ true) ↔ Selects w mark up P m n q
   meeting_not lv l no_step q = let o = k q in never o.2 (λ a. no_step ((two_step q u x v y lv o.0 l).0 a).0)
 
-  -- the ways meet on two nodes, or on one
-  pub meeting_apart : u ≡ v → (x ≡ y → ⊥) → (q : Asked w mark up P) → (false ≡ true) ↔ Selects w mark up P m n q
-  meeting_apart e ne q = never (k q).2 (λ a. ne ((two_meet q u x v y e).0 a).0)
-
+  -- the ways meet on one node
   pub meeting_all : u ≡ v → x ≡ y → (r : Bool) → ((mark' : List ℕ) (q : Asked w mark' up P) → u < q.rows → (r ≡ true) ↔ OneWay w up P q.span u x)
       → (q : Asked w mark up P) → (r ≡ true) ↔ Selects w mark up P m n q
   meeting_all e f r c q =

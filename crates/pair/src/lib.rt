@@ -16,10 +16,7 @@ fn can_climb(w: &[u8], u: usize, x: usize) -> bool
     requires { (u < most_nodes) × (x < most_rows) × (table_bytes ≤ length w.now) }
     ensures { (result ≡ true) ↔ Step w.now u x }
 {
-    if x == 0 {
-        return false;
-    }
-    bits::test_bit(w, u, x)
+    x != 0 && bits::test_bit(w, u, x)
 }
 
 // Whether the way from row u up to the top can be laid with u on x.

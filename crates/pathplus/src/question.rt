@@ -9,6 +9,7 @@ ghost use Rattle.rows.specs.Rows.{tree_rows};
 ghost use Rattle.pathplus.specs.Answer.{question};
 ghost use Rattle.pathplus.specs.Pair.{NotRefused, RowsAsked, Taken};
 
+use document::table::Document;
 use limits::refusal::Refusal::{BadTable, NoSuchNode, WorkspaceTooShort};
 use limits::refusal::Refused;
 use rows::{Codes, Links, Marks, TreeRows};
@@ -24,41 +25,33 @@ fn taken(
     span: &Links,
     up: &Links,
     rows: usize,
-    parents: &[u32],
-    labels: &[u32],
+    document: &Document<'_>,
     m: usize,
     n: usize,
     workspace: &mut [u8],
 ) -> bool
     requires { RowsAsked code.now mark.now span.now up.now rows
-        × NotRefused parents.now labels.now m n workspace.old }
+        × NotRefused document.now.parents.now document.now.labels.now m n workspace.old }
     ensures { Taken (tree_rows code.now mark.now span.now rows)
-        (doc_of parents.now labels.now) m n result workspace.old workspace.new }
+        (doc_of document.now.parents.now document.now.labels.now) m n result workspace.old workspace.new }
 {
-    matching::filling::match_table(workspace, code, span, rows, parents, labels);
+    matching::filling::match_table(workspace, code, span, rows, document);
     if rows == 0 {
         return false;
     }
-    pair::pair_selected(workspace, mark, up, parents, m, n)
+    pair::pair_selected(workspace, mark, up, document.parents, m, n)
 }
 
 // Yes or no, once nothing is left to refuse.
-fn tell(
-    word: &[u8],
-    parents: &[u32],
-    labels: &[u32],
-    m: usize,
-    n: usize,
-    workspace: &mut [u8],
-) -> bool
-    requires { Accepted word.now × NotRefused parents.now labels.now m n workspace.old }
-    ensures { Selected (question word.now parents.now labels.now m n workspace.old)
+fn tell(word: &[u8], document: &Document<'_>, m: usize, n: usize, workspace: &mut [u8]) -> bool
+    requires { Accepted word.now × NotRefused document.now.parents.now document.now.labels.now m n workspace.old }
+    ensures { Selected (question word.now document.now.parents.now document.now.labels.now m n workspace.old)
         (answered result) workspace.new }
 {
     let mut rows = TreeRows::none();
     query::word_rows(true, word, &mut rows);
     taken(
-        &rows.code, &rows.mark, &rows.span, &rows.up, rows.len, parents, labels, m, n, workspace,
+        &rows.code, &rows.mark, &rows.span, &rows.up, rows.len, document, m, n, workspace,
     )
 }
 
@@ -75,9 +68,9 @@ fn ask(
     ensures { Selected (question word.now parents.now labels.now m n workspace.old)
         (outcome_of result) workspace.new }
 {
-    if !document::table::good_table(parents, labels) {
+    let Some(document) = Document::checked(parents, labels) else {
         return Err(BadTable.at(0));
-    }
+    };
     let nodes = parents.len() as u64;
     if nodes <= m || nodes <= n {
         return Err(NoSuchNode.at(0));
@@ -85,7 +78,7 @@ fn ask(
     if workspace.len() < TABLE_BYTES {
         return Err(WorkspaceTooShort.at(TABLE_BYTES));
     }
-    Ok(tell(word, parents, labels, m as usize, n as usize, workspace))
+    Ok(tell(word, &document, m as usize, n as usize, workspace))
 }
 
 // Whether a word selects the pair (m,n) on the document of a table.

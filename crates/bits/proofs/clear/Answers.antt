@@ -1,19 +1,7 @@
-use mathlib.Core.Path.{◌≡◌}
-use native.Mathlib.Omega.{arith}
-use Rattle.bits.proofs.Bits.{clear_none, clear_more}
+-- The first bytes are filled with zeros, and the later ones stay.
+use Rattle.std.proofs.Common.{length-take-le}
+use Rattle.bits.proofs.Bits.{front_clear}
 use Rattle.bits.proofs.clear.Goals as goal
 
-pub loop-i-init : goal.loop-i-init
-loop-i-init c = (omega arith, clear_none _)
-
-pub bounds-w-i : goal.bounds-w-i
-bounds-w-i c = omega (arith, c.loop-i.invariant.1.same)
-
-pub loop-i-preserved : goal.loop-i-preserved
-loop-i-preserved c = (omega arith, clear_more _ _ _ (omega arith) c.loop-i.invariant.1)
-
-pub shape_of-w : goal.shape_of-w
-shape_of-w c = c.loop-i.invariant.1.same
-
 pub returns : goal.returns
-returns c = let z : c.loop-i.i ≡ 32768 = omega arith in rw z at c.loop-i.invariant.1
+returns c = front_clear _ _ _ _ c.requires (length-take-le 32768 c.args.w.now c.requires) (c.fill.ensures.after (λ y e. e))

@@ -5,9 +5,6 @@ use Rattle.pair.proofs.Climbing.{up_less}
 use Rattle.pair.proofs.Pair.{stuck, stepped, in_table, linked, parent_node, climbed_more, climbed_not, climbed_all}
 use Rattle.pair.proofs.climbs.Goals as goal
 
-pub loop-c-init : goal.loop-c-init
-loop-c-init c = (c.requires.3, λ mark q l. (l, (λ a. a, λ a. a)))
-
 pub can_climb-requires : goal.can_climb-requires
 can_climb-requires c =
     let l = c.loop-c in let (_, q, lu, _) = c.requires in

@@ -1,15 +1,9 @@
 use Prim.Native.Nat.{◌<◌}
 use native.Mathlib.Omega.{arith}
 use Rattle.pair.proofs.Climbing.{up_less}
-use Rattle.pair.proofs.Pair.{stuck, stepped, borne_s, borne_d, in_table, linked, parent_node}
-use Rattle.pair.proofs.Pair.{meeting_none, meeting_more, meeting_not, meeting_more_d, meeting_not_d, meeting_apart, meeting_all}
+use Rattle.pair.proofs.Pair.{stuck, stepped, in_table, linked, parent_node}
+use Rattle.pair.proofs.Pair.{meeting_none, meeting_more, meeting_not, meeting_more_d, meeting_not_d, meeting_all}
 use Rattle.pair.proofs.pair_selected.Goals as goal
-
-pub row_of-u-requires : goal.row_of-u-requires
-row_of-u-requires c = (omega arith, borne_s c.requires.0)
-
-pub row_of-v-requires : goal.row_of-v-requires
-row_of-v-requires c = (omega arith, borne_d c.requires.0)
 
 pub loop-u-init : goal.loop-u-init
 loop-u-init c =
@@ -65,9 +59,6 @@ loop-u-preserved c =
     let later : l.u < l.v = omega (arith, c.if-v-u.false, c.loop-u-test.true) in
     rw (c.at-v.ensures.0, c.parent_at-y.ensures)
     (l.invariant.0, parent_node q l.y l.invariant.1, meeting_more_d _ _ _ _ _ _ l.u _ l.v _ l.invariant.2 later l.invariant.1 on)
-
-pub returns-then-x-y : goal.returns-then-x-y
-returns-then-x-y c = meeting_apart _ _ _ _ _ _ _ _ _ _ c.loop-u.invariant.2 c.loop-u-test.false c.if-x-y.true
 
 pub climbs-requires : goal.climbs-requires
 climbs-requires c =

@@ -2,7 +2,6 @@ use mathlib.Core.Path.{sym, ◌∙◌}
 use native.Mathlib.Omega.{arith}
 use Rattle.bits.proofs.Bits.{row_clear_lem}
 use Rattle.rows.proofs.Rows.{row_opens}
-use Rattle.theory.proofs.Look.{never}
 use Rattle.matching.proofs.Filled.{children_start, child_span, child_next, child_needed}
 use Rattle.matching.proofs.filling.child_nowhere.Goals as goal
 
@@ -28,6 +27,3 @@ loop-c-smaller c =
 pub loop-c-preserved : goal.loop-c-preserved
 loop-c-preserved c =
     (omega (arith, c.loop-c.invariant.0), c.loop-c.invariant.1, rw c.at-c.ensures.0 (child_next _ _ _ _ c.loop-c-test.true c.loop-c.invariant.2))
-
-pub returns : goal.returns
-returns c = λ e. never cc

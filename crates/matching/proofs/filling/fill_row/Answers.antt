@@ -4,7 +4,6 @@ use borrow.Author.Rules.{rules}
 use Rattle.bits.proofs.Bits.{only_refl, only_then, row_clear_lem}
 use Rattle.rows.proofs.Rows.{row_opens}
 use Rattle.document.proofs.Tables.{good_table_lem}
-use Rattle.matching.proofs.Flags.{good_parents}
 use Rattle.matching.proofs.Filled.{partly_next, partly_start, partly_turn, partly_all, partly_clear, rows_kept, rows_inside}
 use Rattle.matching.proofs.filling.fill_row.Goals as goal
 
@@ -35,7 +34,6 @@ returns-then-row_clear c =
 
 pub keep_parents-requires : goal.keep_parents-requires
 keep_parents-requires c = (
-  good_parents _ _ (good_table_lem _ _ c.requires.table),
   search rules,
   search rules,
   search rules,

@@ -6,8 +6,8 @@ use Rattle.matching.proofs.Filled.{Partly}
 use Rattle.matching.proofs.filling.fill_row.Given as goal
 
 abbrev pub invariant-loop-c : goal.invariant-loop-c
-invariant-loop-c l = (l.u < l.c) × (l.end ≤ l.n) × OnlyRow l.initial.w l.u l.w × RowsFrom l.code l.span l.parents l.labels l.n (l.u + 1) l.w
-    × Partly l.code l.span l.parents l.labels l.u l.c l.end l.w × RowInside l.w l.u l.parents
+invariant-loop-c l = (l.u < l.c) × (l.end ≤ l.n) × OnlyRow l.initial.w l.u l.w × RowsFrom l.code l.span l.document.parents.now l.document.labels.now l.n (l.u + 1) l.w
+    × Partly l.code l.span l.document.parents.now l.document.labels.now l.u l.c l.end l.w × RowInside l.w l.u l.document.parents.now
 
 abbrev pub decreases-loop-c : goal.decreases-loop-c
 decreases-loop-c l = l.end - l.c
