@@ -9,7 +9,7 @@ ghost use Rattle.matching.specs.Table.{FromByte, Upto, ParentOf, Added, RowInsid
 use document::table::{Document, parent_at};
 use limits::most::MOST_ROWS;
 
-// A flag for each node of a document.
+// A flag for each node of a document, 1 where it is set: numbers and no `bool`s, since `meet` (bits) is promised for any bytes (docs/PROMISES.md).
 type Flags = [u8; MOST_ROWS];
 
 // Flags the parents of the nodes whose bits are set in a byte, node `first` being its lowest bit.
