@@ -89,7 +89,7 @@ pub zero_bit : (k : ℕ) → bit_of 0 k ≡ false
 unfolding bit_of
 zero_bit k = rw (zero-div (2 ^ k))
 
--- ------------------------------------------------------------------ a byte sifted bit by bit
+-- ------------------------------------------------------------------ a byte with one bit cleared
 pub both : (x y : Bool) → (x && y) ≡ true → (x ≡ true) × (y ≡ true)
 both true y e = (refl, e)
 both false y e = never cc
