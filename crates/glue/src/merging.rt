@@ -90,23 +90,19 @@ fn relink_rows(parent: &mut [u16], from: usize, end: usize, gap: usize, x: u16, 
     requires { (from ≤ end) × (gap ≤ 1) × (end + gap ≤ length parent.old) × (x < no_row) × (y < no_row) }
     ensures { Swept (Relinked (moved x y)) gap from end parent.old parent.new }
 {
-    let mut i = from;
-    while i < end {
+    for i in from..end {
         let p = relinked(x, y, parent[i + gap]);
         parent[i] = p;
-        i += 1;
     }
 }
 
-// The labels of the rows from y to `last` become those of the next rows.
+// The labels of the rows from y to `last` become those of the next rows. A loop: `copy_within` has one for each direction, and gluing was slower with it.
 fn pull_labels(label: &mut [u32], y: usize, last: usize)
     requires { (y ≤ last) × (last < length label.old) }
     ensures { Swept ◌≡◌ 1 y last label.old label.new }
 {
-    let mut i = y;
-    while i < last {
+    for i in y..last {
         label[i] = label[i + 1];
-        i += 1;
     }
 }
 

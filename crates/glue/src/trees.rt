@@ -53,11 +53,9 @@ fn shift_rows(parent: &mut [u16], na: usize, nb: usize)
 {
     let end = na + nb;
     let k = na as u16;
-    let mut i = na;
-    while i < end {
+    for i in na..end {
         let p = shifted(k, parent[i]);
         parent[i] = p;
-        i += 1;
     }
 }
 
@@ -133,7 +131,8 @@ fn glue_within(parent: &mut [u16], label: &mut [u32], t: Joined) -> Option<Built
     })
 }
 
-// Composition, or intersection, which "glues s to s, then d to d in that result". "Empty in any operand gives empty."
+// Composition, or intersection, which "glues s to s, then d to d in that result". "Empty in any operand gives empty." `both` is a bool: an enum of the
+// two would be made of the sign by the test that makes the bool.
 pub fn glue_two(
     parent: &mut [u16],
     label: &mut [u32],

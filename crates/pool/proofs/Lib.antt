@@ -4,5 +4,6 @@ mod Operands
 mod Parts
 mod Laying
 mod Taking
+mod Slices
 mod Reading
 pub mod Unique

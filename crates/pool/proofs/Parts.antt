@@ -5,7 +5,7 @@ use mathlib.Core.Bool.{Bool}
 use mathlib.Core.List.{List, [], ◌++◌, append-nil}
 use Prim.Native.Nat.{ℕ, ◌+◌, ◌-◌, ◌≤◌, ◌<◌}
 use native.Mathlib.Omega.{arith}
-use lib.ListN.{length, get_or, take, drop, length-drop}
+use lib.ListN.{length, get_or, take, drop, length-drop, length-append}
 use lib.Seq.{take_all, drop-drop, drop-length, drop_at, length-take-le}
 use borrow.Rule.Slice.PartMut.{put_mid, take_put}
 use Rattle.meaning.specs.Expression.{Expr}
@@ -31,6 +31,13 @@ put_tail a P X le =
   where
     none_left : drop (length P - a) (drop a P) ≡ []
     none_left = ap (λ z. drop z (drop a P)) (sym (length-drop a P)) ∙ drop-length (drop a P)
+
+pub length_put : (a : ℕ) (P X : List ℕ) → a ≤ length P → length X ≡ length (lent a P) → length (put_mid a (length P - a) P X) ≡ length P
+length_put a P X le e =
+    let d = length-drop a P in
+    let r = length-drop (length P - a) (drop a P) in
+    let m = e ∙ ap length (lent_is a P) ∙ d in
+    rw (length-append, length-append, length-take-le a P le, m, r, d) (omega arith)
 
 -- what reading an operand asks
 pub latest_asks : (p : Pool) (n : ℕ) → InOrder p n → (k : ℕ) → k < n

@@ -1,6 +1,7 @@
 -- What a sign makes of the latest operands: one operand, in the rows from the start of the earliest that it takes.
+use Rattle.pool.specs.declared.operand.Pool as lent
 use Rattle.std.specs.Prelude as code
-use Rattle.std.specs.Prelude.{◌≡◌, List, [], ◌∷◌, map, ℕ, ◌+◌, ◌≤◌, ◌<◌, length, get_or, take}
+use Rattle.std.specs.Prelude.{◌≡◌, List, [], ◌∷◌, map, ℕ, ◌+◌, ◌≤◌, ◌<◌, length, get_or, set, take, ◌%◌}
 use Rattle.std.proofs.Math.Option.{Option, none, some}
 use Rattle.meaning.specs.Expression.{Expr}
 use Rattle.meaning.specs.TreeQuery.{any, node, Query}
@@ -10,10 +11,10 @@ use Rattle.meaning.specs.Word.{Pending, takes, answered}
 use Rattle.rows.specs.Rows.{lab_of}
 use Rattle.glue.specs.declared.trees.Built.{Built}
 use Rattle.glue.specs.Rows.{pool_rows, given}
-use Rattle.glue.specs.Trees.{rows_in, built_from}
+use Rattle.glue.specs.Trees.{kept, rows_in, built_from}
 use Rattle.pool.specs.declared.operand.Latest.{Latest}
 use Rattle.theory.proofs.Accepted.{all_steps}
-use Rattle.pool.specs.Pool.{Pool, stack, InOrder, PoolFor}
+use Rattle.pool.specs.Pool.{Pool, pool, holding, stack, InOrder, PoolFor}
 
 -- the operand l, in the rows from a on
 abbrev pub latest_at : ℕ → Latest → List ℕ → List ℕ → Option Query
@@ -45,6 +46,15 @@ pub record Gives (p : Pool) (l : Latest) (P' L' : List ℕ) (st : Pending) : Typ
 
 abbrev pub Makes : Pool → ℕ → ℕ → Latest → List ℕ → List ℕ → Type 0
 Makes p n sign l P' L' = (st st' : Pending) (at : ℕ) → PoolFor p n st → takes sign st at ≡ answered st' → Gives p l P' L' st'
+
+-- the latest operand l, of the query o, is number k of the pool x, whose rows are now those of y
+abbrev pub LatestIs : lent.Pool → ℕ → Latest → lent.Pool → Option Query → Type 0
+LatestIs x k l y o = Made k (get_or x.first.now k 0) x.parent.now x.label.now l y.parent.now y.label.now o
+
+-- l put in its place: as many more are pending
+abbrev pub with_latest : lent.Pool → Latest → lent.Pool
+with_latest x l = holding x (pool x.parent.now x.label.now (set x.first.now (l.at + 1) (get_or x.first.now l.at 0 + rows_in l.built))
+    (set x.s.now l.at ((kept l.built).s % 65536)) (set x.d.now l.at ((kept l.built).d % 65536))) (l.at + 1)
 
 -- there is room for l in the pool
 abbrev pub PutFits : Latest → List ℕ → List ℕ → List ℕ → Type 0

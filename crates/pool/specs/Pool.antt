@@ -1,5 +1,7 @@
 -- The pending operands in one pool of rows: the rows of operand k start at entry k of `first` and end before entry k + 1, its marks are the
 -- entries k of `s` and `d`, and its links count from its own first row. An operand without rows is empty.
+use denote.Ref.{at_last}
+use Rattle.pool.specs.declared.operand.Pool as lent
 use Rattle.std.specs.Prelude as code
 use Rattle.std.specs.Prelude.{Some, None, ◌≡◌, List, [], ◌∷◌, map, ℕ, zero, suc, ◌+◌, ◌-◌, ◌≤◌, ◌<◌, length, get_or}
 use Rattle.std.proofs.Math.Option.{Option}
@@ -28,6 +30,33 @@ pool P L F S D = record { parent = P; label = L; first = F; s = S; d = D }
 abbrev pub stored : ℕ → ℕ → ℕ → code.Option Built
 stored zero s d = None
 stored (suc n) s d = Some (record { rows = suc n; s = s; d = d })
+
+-- what the slices of the code's pool hold
+abbrev pub held : lent.Pool → Pool
+held x = pool x.parent.now x.label.now x.first.now x.s.now x.d.now
+
+-- the slices of x, which hold what p says, while n operands are pending
+abbrev pub holding : lent.Pool → Pool → ℕ → lent.Pool
+holding x p n = record {
+  parent = at_last x.parent p.parent;
+  label = at_last x.label p.label;
+  first = at_last x.first p.first;
+  s = at_last x.s p.s;
+  d = at_last x.d p.d;
+  pending = n;
+}
+
+-- y is x, but for what its slices hold and for how many operands are pending
+abbrev pub SameSlices : lent.Pool → lent.Pool → Type 0
+SameSlices x y = y ≡ holding x (held y) y.pending
+
+-- y is x, but for its rows
+pub record OnlyRows (x y : lent.Pool) : Type 0 where
+  pub parent : List ℕ
+  pub label : List ℕ
+  pub same : y ≡ holding x (pool parent label x.first.now x.s.now x.d.now) x.pending
+  pub parents : length parent ≡ length x.parent.now
+  pub labels : length label ≡ length x.label.now
 
 -- operand k: its rows and marks, and the query that they are
 abbrev pub built : Pool → ℕ → code.Option Built

@@ -6,52 +6,38 @@ ghost use Rattle.meaning.specs.Limits.{most_pending};
 ghost use Rattle.meaning.specs.Word.{answered, and_then, read_word};
 ghost use Rattle.glue.specs.Rows.{pool_rows};
 ghost use Rattle.glue.specs.Trees.{built_of};
-ghost use Rattle.pool.specs.Pool.{pool, Passes, Applies, PoolForNone, PoolForOnly};
+ghost use Rattle.pool.specs.Pool.{held, SameSlices, Passes, Applies, PoolForNone, PoolForOnly};
 
-use crate::operand::{make, operand, put_latest};
+use crate::operand::Pool;
 use glue::trees::Built;
 use word::cursor::{Cursor, read_sign};
 
 // The rows of the pool: an operand has at most one more than it has steps, so 255 steps and 256 pending operands use 511.
 pub const POOL_ROWS: usize = 512;
 
-// One sign of an accepted word; gives the number of operands that are pending after it.
-fn apply_sign(
-    parent: &mut [u16],
-    label: &mut [u32],
-    first: &mut [u16],
-    s: &mut [u16],
-    d: &mut [u16],
-    pending: usize,
-    sign: u32,
-) -> usize
-    requires { Passes (pool parent.old label.old first.old s.old d.old) pending sign }
-    ensures { Applies (pool parent.old label.old first.old s.old d.old) pending sign
-        (pool parent.new label.new first.new s.new d.new) result }
-{
-    let latest = make(parent, label, first, s, d, pending, sign);
-    put_latest(first, s, d, latest)
-}
+impl<'a> Pool<'a> {
+    // One sign of an accepted word.
+    fn apply_sign(&mut self, sign: u32)
+        requires { Passes (held self.old) self.old.pending sign }
+        ensures slices { SameSlices self.old self.new }
+        ensures sign { Applies (held self.old) self.old.pending sign (held self.new) self.new.pending }
+    {
+        let latest = self.make(sign);
+        self.put_latest(latest);
+    }
 
-// "One reading place moves through the word, sign by sign": one cursor, lent to the number reader for each sign.
-// No number of an accepted word is broken. After the last sign its expression alone is pending.
-fn apply_signs(
-    word: &[u8],
-    parent: &mut [u16],
-    label: &mut [u32],
-    first: &mut [u16],
-    s: &mut [u16],
-    d: &mut [u16],
-)
-    requires { ((e : Expr) × (read_word word.now ≡ answered e)) × PoolForNone (pool parent.old label.old first.old s.old d.old) }
-    ensures { (e : Expr) × (read_word word.now ≡ answered e)
-        × PoolForOnly (pool parent.new label.new first.new s.new d.new) e }
-{
-    let mut cursor = Cursor { at: 0 };
-    let mut pending: usize = 0;
-    while cursor.at < word.len() {
-        let read = read_sign(&mut cursor, word).unwrap();
-        pending = apply_sign(parent, label, first, s, d, pending, read.value);
+    // "One reading place moves through the word, sign by sign": one cursor, lent to the number reader for each sign.
+    // No number of an accepted word is broken. After the last sign its expression alone is pending.
+    fn apply_signs(&mut self, word: &[u8])
+        requires { ((e : Expr) × (read_word word.now ≡ answered e)) × PoolForNone (held self.old) × (self.old.pending ≡ 0) }
+        ensures slices { SameSlices self.old self.new }
+        ensures only { (e : Expr) × (read_word word.now ≡ answered e) × PoolForOnly (held self.new) e }
+    {
+        let mut cursor = Cursor { at: 0 };
+        while cursor.at < word.len() {
+            let read = read_sign(&mut cursor, word).unwrap();
+            self.apply_sign(read.value);
+        }
     }
 }
 
@@ -73,6 +59,14 @@ pub fn build(
         ≡ answered (built_of result parent.new label.new) }
 {
     first[0] = 0;
-    apply_signs(word, parent, label, first, s, d);
-    operand(first, s, d, 0)
+    let mut pool = Pool {
+        parent,
+        label,
+        first,
+        s,
+        d,
+        pending: 0,
+    };
+    pool.apply_signs(word);
+    pool.operand(0)
 }

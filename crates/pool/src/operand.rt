@@ -5,8 +5,8 @@ ghost use Rattle.meaning.specs.Gluing.{plain};
 ghost use Rattle.meaning.specs.Word.{operand, unary, binary, sign_of};
 ghost use Rattle.glue.specs.Rows.{pool_rows};
 ghost use Rattle.glue.specs.Trees.{kept, rows_in, built_from};
-ghost use Rattle.pool.specs.Pool.{pool, built, operand_at, InOrder, Trees, Passes};
-ghost use Rattle.pool.specs.Latest.{topped, Made, Makes, PutFits};
+ghost use Rattle.pool.specs.Pool.{held, OnlyRows, built, operand_at, InOrder, Trees, Passes};
+ghost use Rattle.pool.specs.Latest.{topped, LatestIs, Makes, PutFits, with_latest};
 
 use glue::trees::{Built, glue_two, kept};
 use rows::{NO_ROW, link, set_link};
@@ -22,24 +22,19 @@ pub struct Latest {
     pub built: Option<Built>,
 }
 
+// The pool: rows in slices that the caller lends, where each operand's rows start, its marks, and how many operands are pending.
+#[derive(Drop)]
+pub struct Pool<'a> {
+    pub parent: &'a mut [u16],
+    pub label: &'a mut [u32],
+    pub first: &'a mut [u16],
+    pub s: &'a mut [u16],
+    pub d: &'a mut [u16],
+    pub pending: usize,
+}
+
 // "9+L: label L", and the code of label L is L+1.
 const CODE_TO_SIGN: u32 = FIRST_LABEL - 1;
-
-// Operand k as it stands.
-pub fn operand(first: &[u16], s: &[u16], d: &[u16], k: usize) -> Option<Built>
-    requires { (k + 1 < length first.now) × (k < length s.now) × (k < length d.now) × (get_or first.now k 0 ≤ get_or first.now (k + 1) 0) }
-    ensures { (P L : List ℕ) → result ≡ built (pool P L first.now s.now d.now) k }
-{
-    let rows = link(first, k + 1) - link(first, k);
-    if rows == 0 {
-        return None;
-    }
-    Some(Built {
-        rows,
-        s: link(s, k),
-        d: link(d, k),
-    })
-}
 
 // The label code of an operand sign's top: a label's, or the wildcard's.
 fn code_of(sign: u32) -> u32
@@ -75,25 +70,6 @@ fn shape(sign: u32) -> Option<Built>
     }
 }
 
-// A new operand: a top and a child of it are written, and the sign tells how many of the two it has.
-fn lay(parent: &mut [u16], label: &mut [u32], first: &[u16], pending: usize, sign: u32) -> Latest
-    requires { (pending < length first.now) × (get_or first.now pending 0 + 1 < pool_rows)
-        × (pool_rows ≤ length parent.old) × (pool_rows ≤ length label.old) }
-    ensures { (e : Expr) → sign_of sign ≡ operand e → Made pending (get_or first.now pending 0)
-        parent.old label.old result parent.new label.new (plain e) }
-{
-    let u = link(first, pending);
-    let v = u + 1;
-    parent[u] = NO_ROW;
-    parent[v] = 0;
-    label[u] = code_of(sign);
-    label[v] = 0;
-    Latest {
-        at: pending,
-        built: shape(sign),
-    }
-}
-
 // "Projections move one mark to the other's node, inverse exchanges them."
 fn turned(q: Option<Built>, sign: u32) -> Option<Built>
     ensures { (f : Expr → Expr) (e : Expr) (a : ℕ) (P L : List ℕ) → sign_of sign ≡ unary f → built_from a q P L ≡ plain e
@@ -107,83 +83,112 @@ fn turned(q: Option<Built>, sign: u32) -> Option<Built>
     }
 }
 
-// The latest operand with its marks moved.
-fn turn(first: &[u16], s: &[u16], d: &[u16], pending: usize, sign: u32) -> Latest
-    requires { (1 ≤ pending) × (pending < length first.now) × (pending ≤ length s.now) × (pending ≤ length d.now)
-        × (get_or first.now (pending - 1) 0 ≤ get_or first.now pending 0) }
-    ensures { (P L : List ℕ) (f : Expr → Expr) (e : Expr) → sign_of sign ≡ unary f
-        → operand_at (pool P L first.now s.now d.now) (pending - 1) ≡ plain e
-        → Made (pending - 1) (get_or first.now (pending - 1) 0) P L result P L (plain (f e)) }
-{
-    let k = pending - 1;
-    Latest {
-        at: k,
-        built: turned(operand(first, s, d, k), sign),
+impl<'a> Pool<'a> {
+    // Operand k as it stands.
+    pub fn operand(&self, k: usize) -> Option<Built>
+        requires { let p = held self.now in
+            (k + 1 < length p.first) × (k < length p.s) × (k < length p.d) × (get_or p.first k 0 ≤ get_or p.first (k + 1) 0) }
+        ensures { result ≡ built (held self.now) k }
+    {
+        let rows = self.start(k + 1) - self.start(k);
+        if rows == 0 {
+            return None;
+        }
+        Some(Built {
+            rows,
+            s: link(self.s, k),
+            d: link(self.d, k),
+        })
     }
-}
 
-// "Signs 4 and 7 take the two latest operands, the earlier as first": their rows are used again for what comes of them.
-fn glue_latest(
-    parent: &mut [u16],
-    label: &mut [u32],
-    first: &[u16],
-    s: &[u16],
-    d: &[u16],
-    pending: usize,
-    sign: u32,
-) -> Latest
-    requires { (2 ≤ pending) × (let p = pool parent.old label.old first.now s.now d.now in InOrder p pending × Trees p pending) }
-    ensures { let p = pool parent.old label.old first.now s.now d.now in
-        (f : Expr → Expr → Expr) (e g : Expr) → sign_of sign ≡ binary f → operand_at p (pending - 2) ≡ plain e → operand_at p (pending - 1) ≡ plain g
-        → Made (pending - 2) (get_or p.first (pending - 2) 0) p.parent p.label result parent.new label.new (plain (f e g)) }
-{
-    let k = pending - 2;
-    let a = link(first, k);
-    let p = operand(first, s, d, k);
-    let q = operand(first, s, d, k + 1);
-    let built = glue_two(
-        &mut parent[a..],
-        &mut label[a..],
-        p,
-        q,
-        sign == INTERSECTION,
-    );
-    Latest { at: k, built }
-}
-
-// What a sign that the check of the word lets pass makes of the latest operands, in the rows.
-pub fn make(
-    parent: &mut [u16],
-    label: &mut [u32],
-    first: &[u16],
-    s: &[u16],
-    d: &[u16],
-    pending: usize,
-    sign: u32,
-) -> Latest
-    requires { Passes (pool parent.old label.old first.now s.now d.now) pending sign }
-    ensures { Makes (pool parent.old label.old first.now s.now d.now) pending sign result
-        parent.new label.new }
-{
-    match kind_of(sign) {
-        Kind::Unary => turn(first, s, d, pending, sign),
-        Kind::Binary => glue_latest(parent, label, first, s, d, pending, sign),
-        _ => lay(parent, label, first, pending, sign),
+    // Where the rows of operand k start.
+    fn start(&self, k: usize) -> usize
+        requires { k < length self.now.first.now }
+        ensures { (result ≡ get_or self.now.first.now k 0) × (result < 65536) }
+    {
+        link(self.first, k)
     }
-}
 
-// Operand l.at is l, and it is the latest. Where there are no rows, its marks do not matter, and may be any numbers. Gives the number of operands
-// that are pending then.
-pub fn put_latest(first: &mut [u16], s: &mut [u16], d: &mut [u16], l: Latest) -> usize
-    requires { PutFits l first.old s.old d.old }
-    ensures { (result ≡ l.at + 1) × (first.new ≡ set first.old (l.at + 1) (get_or first.old l.at 0 + rows_in l.built))
-        × (s.new ≡ set s.old l.at ((kept l.built).s % 65536)) × (d.new ≡ set d.old l.at ((kept l.built).d % 65536)) }
-{
-    let k = l.at;
-    let b = kept(l.built);
-    let end = link(first, k) + b.rows;
-    set_link(first, k + 1, end);
-    s[k] = (b.s % 65536) as u16;
-    d[k] = (b.d % 65536) as u16;
-    k + 1
+    // A new operand: a top and a child of it are written, and the sign tells how many of the two it has.
+    fn lay(&mut self, sign: u32) -> Latest
+        requires { let p = held self.old in let n = self.old.pending in
+            (n < length p.first) × (get_or p.first n 0 + 1 < pool_rows) × (pool_rows ≤ length p.parent) × (pool_rows ≤ length p.label) }
+        ensures rows { OnlyRows self.old self.new }
+        ensures latest { (e : Expr) → sign_of sign ≡ operand e → LatestIs self.old self.old.pending result self.new (plain e) }
+    {
+        let k = self.pending;
+        let u = self.start(k);
+        let v = u + 1;
+        self.parent[u] = NO_ROW;
+        self.parent[v] = 0;
+        self.label[u] = code_of(sign);
+        self.label[v] = 0;
+        Latest {
+            at: k,
+            built: shape(sign),
+        }
+    }
+
+    // The latest operand with its marks moved.
+    fn turn(&self, sign: u32) -> Latest
+        requires { let p = held self.now in let n = self.now.pending in
+            (1 ≤ n) × (n < length p.first) × (n ≤ length p.s) × (n ≤ length p.d) × (get_or p.first (n - 1) 0 ≤ get_or p.first n 0) }
+        ensures { (f : Expr → Expr) (e : Expr) → sign_of sign ≡ unary f → operand_at (held self.now) (self.now.pending - 1) ≡ plain e
+            → LatestIs self.now (self.now.pending - 1) result self.now (plain (f e)) }
+    {
+        let k = self.pending - 1;
+        Latest {
+            at: k,
+            built: turned(self.operand(k), sign),
+        }
+    }
+
+    // "Signs 4 and 7 take the two latest operands, the earlier as first": their rows are used again for what comes of them.
+    fn glue_latest(&mut self, sign: u32) -> Latest
+        requires { let p = held self.old in let n = self.old.pending in (2 ≤ n) × (InOrder p n × Trees p n) }
+        ensures rows { OnlyRows self.old self.new }
+        ensures latest { let p = held self.old in let n = self.old.pending in
+            (f : Expr → Expr → Expr) (e g : Expr) → sign_of sign ≡ binary f → operand_at p (n - 2) ≡ plain e → operand_at p (n - 1) ≡ plain g
+            → LatestIs self.old (n - 2) result self.new (plain (f e g)) }
+    {
+        let k = self.pending - 2;
+        let a = self.start(k);
+        let p = self.operand(k);
+        let q = self.operand(k + 1);
+        let built = glue_two(
+            &mut self.parent[a..],
+            &mut self.label[a..],
+            p,
+            q,
+            sign == INTERSECTION,
+        );
+        Latest { at: k, built }
+    }
+
+    // What a sign that the check of the word lets pass makes of the latest operands, in the rows.
+    pub fn make(&mut self, sign: u32) -> Latest
+        requires { Passes (held self.old) self.old.pending sign }
+        ensures rows { OnlyRows self.old self.new }
+        ensures latest { Makes (held self.old) self.old.pending sign result self.new.parent.now self.new.label.now }
+    {
+        match kind_of(sign) {
+            Kind::Unary => self.turn(sign),
+            Kind::Binary => self.glue_latest(sign),
+            _ => self.lay(sign),
+        }
+    }
+
+    // Operand l.at is l, and it is the latest. Where there are no rows, its marks do not matter, and may be any numbers.
+    pub fn put_latest(&mut self, l: Latest)
+        requires { PutFits l self.old.first.now self.old.s.now self.old.d.now }
+        ensures { self.new ≡ with_latest self.old l }
+    {
+        let k = l.at;
+        let b = kept(l.built);
+        let end = self.start(k) + b.rows;
+        set_link(self.first, k + 1, end);
+        self.s[k] = (b.s % 65536) as u16;
+        self.d[k] = (b.d % 65536) as u16;
+        self.pending = k + 1;
+    }
 }

@@ -6,9 +6,8 @@ pub returns-in_err-m : goal.returns-in_err-m
 returns-in_err-m c =
     let p = c.requires in rw c.from_residual.ensures (level_fails _ _ _ _ _ _ p.3 p.4 c.in_err-m.ensures _)
 
-pub merge_rows-requires : goal.merge_rows-requires
-merge_rows-requires c =
-    let p = c.requires in let r = p.4.right in record { sizes = (r, p.2, p.1, p.3, p.0.small, p.0.parents, p.0.labels); low_links = first_rows _ _ _ _ _ _ p.4 }
+pub merge_rows-requires-clause-low_links : goal.merge_rows-requires-clause-low_links
+merge_rows-requires-clause-low_links c = first_rows _ _ _ _ _ _ c.requires.4
 
 pub returns : goal.returns
 returns c =

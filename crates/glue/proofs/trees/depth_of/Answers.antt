@@ -4,9 +4,6 @@ use Rattle.rows.specs.Table.{table}
 use Rattle.glue.proofs.Depth.{depth_start, depth_top, depth_up, depth_out}
 use Rattle.glue.proofs.trees.depth_of.Goals as goal
 
-pub loop-k-init : goal.loop-k-init
-loop-k-init c = let a = c.args in (omega arith, omega arith, λ L. depth_start a.n (table a.n a.parent.now L) a.x)
-
 pub returns-in_default : goal.returns-in_default
 returns-in_default c L = depth_top _ _ L _ _ _ (c.loop-k.invariant.2 L) (omega arith) (omega arith) c.in_default.ensures
 
@@ -14,6 +11,3 @@ pub loop-k-preserved : goal.loop-k-preserved
 loop-k-preserved c =
     let h = c.loop-k.invariant in let e = c.in-Some.ensures in
     (omega arith, c.requires.2 _ _ h.1 (sym e), λ L. depth_up _ _ L _ _ _ (h.2 L) (omega arith) (omega arith) _ e)
-
-pub returns : goal.returns
-returns c L = depth_out _ _ L _ _ _ (c.loop-k.invariant.2 L) (omega arith)

@@ -4,15 +4,8 @@ use Rattle.glue.proofs.Sweeping.{swept_start, swept_end, here_more}
 use Rattle.glue.proofs.Shift.{shift_small, shift_end}
 use Rattle.glue.proofs.trees.shift_rows.Goals as goal
 
-pub loop-i-init : goal.loop-i-init
-loop-i-init c = (omega arith, omega arith, refl, swept_start _ _ _ _)
-
 pub shifted-p-requires : goal.shifted-p-requires
 shifted-p-requires c = (omega arith, shift_small _ _ _ _ _ c.loop-i.invariant.3 c.loop-i.invariant.0 c.loop-i-test.true c.requires.low_links)
-
-pub loop-i-preserved : goal.loop-i-preserved
-loop-i-preserved c =
-    (omega arith, omega arith, refl, here_more _ _ _ _ _ _ c.loop-i.invariant.3 c.loop-i.invariant.0 (let h = c.loop-i.invariant.3.same in omega arith) c.shifted-p.ensures)
 
 pub returns : goal.returns
 returns c L = shift_end _ L _ _ _ (swept_end _ _ _ _ _ _ _ c.loop-i.invariant.3 (omega arith))

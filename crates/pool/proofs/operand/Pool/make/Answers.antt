@@ -1,7 +1,8 @@
 -- By its kind a sign makes the latest operand of none, one or two.
+use mathlib.Core.Path.{refl}
 use Rattle.pool.proofs.Signs.{of_kind, operand_kind}
 use Rattle.pool.proofs.Taking.{operand_asks, operand_gives, unary_asks, unary_gives, binary_asks, binary_gives}
-use Rattle.pool.proofs.operand.make.Goals as goal
+use Rattle.pool.proofs.operand.Pool.make.Goals as goal
 
 pub turn-requires : goal.turn-requires
 turn-requires c =
@@ -20,15 +21,21 @@ lay-requires c =
 
 pub returns-in-Unary : goal.returns-in-Unary
 returns-in-Unary c =
-    let (f, q) = of_kind _ _ c.in-Unary.ensures in
-    unary_gives _ _ _ f q _ (λ e. c.turn.ensures _ _ f e q)
+    let (f, q) = of_kind _ _ c.in-Unary.ensures in record {
+      rows = record { parent = _; label = _; same = refl; parents = refl; labels = refl };
+      latest = unary_gives _ _ _ f q _ (λ e. c.turn.ensures f e q);
+    }
 
 pub returns-in-Binary : goal.returns-in-Binary
 returns-in-Binary c =
-    let (f, q) = of_kind _ _ c.in-Binary.ensures in
-    binary_gives _ _ _ f q _ _ _ (λ e g. c.glue_latest.ensures f e g q)
+    let (f, q) = of_kind _ _ c.in-Binary.ensures in record {
+      rows = c.glue_latest.ensures.rows;
+      latest = binary_gives _ _ _ f q _ _ _ (λ e g. c.glue_latest.ensures.latest f e g q);
+    }
 
 pub returns-in_default : goal.returns-in_default
 returns-in_default c =
-    let (e, q) = operand_kind _ _ c.kind_of.ensures c.in_default.not-Unary c.in_default.not-Binary in
-    operand_gives _ _ _ e q _ _ _ (c.lay.ensures e q)
+    let (e, q) = operand_kind _ _ c.kind_of.ensures c.in_default.not-Unary c.in_default.not-Binary in record {
+      rows = c.lay.ensures.rows;
+      latest = operand_gives _ _ _ e q _ _ _ (c.lay.ensures.latest e q);
+    }
