@@ -17,11 +17,6 @@ depth_row_lem zero T i u l lt e = absurd (omega arith)
 depth_row_lem (suc m) T i u l lt e =
     subst (λ z. depth (suc m) T i ≡ depth_row (depth z T) (some (node u l))) (let q : m ≡ suc m - 1 = omega arith in q) (ap (depth_row (depth m T)) e)
 
-pub depth_start : (n : ℕ) (T : Table) (x : ℕ) → depth n T x ≡ 0 + depth (n - 0) T x
-depth_start n T x =
-    let q : n ≡ n - 0 = omega arith in
-    ap (λ z. depth z T x) q ∙ (let z : depth (n - 0) T x ≡ 0 + depth (n - 0) T x = omega arith in z)
-
 module _ (n : ℕ) (P L : List ℕ) (x i k : ℕ) (inv : depth n (table n P L) x ≡ k + depth (n - k) (table n P L) i) where
   module _ (ki : k < n) (lt : i < n) where
     step : depth (n - k) (table n P L) i ≡ depth_row (depth (n - k - 1) (table n P L)) (some (row_at P L i))
@@ -40,7 +35,3 @@ module _ (n : ℕ) (P L : List ℕ) (x i k : ℕ) (inv : depth n (table n P L) x
         let a : depth (n - k) (table n P L) i ≡ suc (depth (n - k - 1) (table n P L) p) = opened (some p) (sym e) in
         let b = ap (λ z. depth z (table n P L) p) (let q : n - k - 1 ≡ n - (k + 1) = omega arith in q) in
         omega (arith, a, b)
-
-  pub depth_out : k ≡ n → n ≡ depth n (table n P L) x
-  depth_out e =
-      sym e ∙ sym (inv ∙ ap (λ z. k + depth z (table n P L) i) (let q : n - k ≡ 0 = omega arith in q) ∙ (let z : k + 0 ≡ k = omega arith in z))

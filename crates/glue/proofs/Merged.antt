@@ -1,5 +1,5 @@
 -- One row stands for two, in place: the links and labels of the merged table, once the loops are done.
-use mathlib.Core.Path.{◌≡◌, refl, sym, ap, subst, ◌∙◌}
+use mathlib.Core.Path.{◌≡◌, refl, sym, ap, ◌∙◌}
 use mathlib.Core.Logic.{◌≢◌, by_cases}
 use mathlib.Core.Option.{Option, none, some}
 use mathlib.Core.List.{List, map}
@@ -10,7 +10,7 @@ use lib.ListN.{length, get_or, set, length-map}
 use lib.Seq.{get_or-set_same, get_or-set_other}
 use Rattle.meaning.specs.Basics.{mapped}
 use Rattle.meaning.specs.TreeQuery.{Row, node, Table, at}
-use Rattle.meaning.specs.Gluing.{without, move, moved, relink, merged}
+use Rattle.meaning.specs.Gluing.{without, moved, relink, merged}
 use Rattle.rows.specs.Rows.{lab_of, no_row}
 use Rattle.theory.proofs.Look.{pick_yes, pick_no, look_set_same, look_set_other, look_map}
 use Rattle.theory.proofs.Merge.{back, back_low, back_high, move_hit, moved_low, moved_high, at_without, length_without, length_merged}
@@ -21,12 +21,6 @@ use Rattle.glue.proofs.Codes.{relinked_some}
 use Rattle.glue.proofs.Sweeping.{here_done}
 
 -- ------------------------------------------------------------------ numbers before and after
-pub moved_falls : (x y i j : ℕ) → j ≡ move x y i → y < j → j - 1 ≡ moved x y i
-moved_falls x y i j e lt = rw e (sym (pick_yes (dec_lt y (move x y i)) (move x y i - 1) (move x y i) (subst (λ z. y < z) e lt)))
-
-pub moved_stays : (x y i j : ℕ) → j ≡ move x y i → j ≤ y → j ≡ moved x y i
-moved_stays x y i j e le =
-    rw e (sym (pick_no (dec_lt y (move x y i)) (move x y i - 1) (move x y i) (λ gt. let z = subst (λ k. k ≤ y) e le in omega arith)))
 
 pub hit_high : (x y i : ℕ) → i ≡ y → y < x → x - 1 ≡ moved x y i
 hit_high x y i e lt = rw (e, move_hit x y) (sym (pick_yes (dec_lt y x) (x - 1) x lt))

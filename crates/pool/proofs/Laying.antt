@@ -112,14 +112,6 @@ module _ (v : ℕ) where
     pub moved_both : v ≢ 5 → v ≢ 6 → Moves v (Some q) (Some (record { rows = q.rows; s = q.d; d = q.s }))
     moved_both a b = moves exchanged (rw (ne_eqb v 5 a, ne_eqb v 6 b) refl) (Some q)
 
--- the latest operand
-pub turn_asks : (F S D : List ℕ) (n : ℕ) → (1 ≤ n) × (n < length F) × (n ≤ length S) × (n ≤ length D) × (get_or F (n - 1) 0 ≤ get_or F n 0)
-    → (n - 1 + 1 < length F) × (n - 1 < length S) × (n - 1 < length D) × (get_or F (n - 1) 0 ≤ get_or F (n - 1 + 1) 0)
-turn_asks F S D n (pos, f, s, d, up) =
-    let z : n - 1 + 1 ≡ n = omega arith in
-    let w = ap (λ k. get_or F k 0) z in
-    (omega arith, omega arith, omega arith, omega arith)
-
 pub turn_made : (p : Pool) (n : ℕ) (q : code.Option Built) → q ≡ built p (n - 1) → (l : Latest) → l.at ≡ n - 1 → (o o' : Option Query)
     → ((a : ℕ) → built_from a q p.parent p.label ≡ o → latest_at a l p.parent p.label ≡ o') → operand_at p (n - 1) ≡ o
     → Made (n - 1) (get_or p.first (n - 1) 0) p.parent p.label l p.parent p.label o'

@@ -2,7 +2,6 @@
 use Rattle.std.specs.Prelude as code
 use Rattle.std.specs.Prelude.{Some, None}
 use mathlib.Core.Path.{◌≡◌, refl, sym, ap, subst, ◌∙◌}
-use mathlib.Core.Logic.{◌≢◌}
 use mathlib.Core.Option.{Option}
 use mathlib.Core.List.{List, [], ◌∷◌, map}
 use Prim.Native.Nat.{ℕ, zero, suc, ◌+◌, ◌-◌, ◌%◌, ◌≤◌, ◌<◌}
@@ -34,13 +33,6 @@ rows_stored p k = go (get_or p.first (k + 1) 0 - get_or p.first k 0)
     go : (n : ℕ) → rows_in (stored n (get_or p.s k 0) (get_or p.d k 0)) ≡ n
     go zero = refl
     go (suc n) = refl
-
-pub stored_none : (n s d : ℕ) → n ≡ 0 → None ≡ stored n s d
-stored_none n s d e = rw e refl
-
-pub stored_some : (n s d : ℕ) → n ≢ 0 → Some (record { rows = n; s = s; d = d }) ≡ stored n s d
-stored_some zero s d ne = absurd (ne refl)
-stored_some (suc n) s d ne = refl
 
 stored_as : (a n s d : ℕ) (P L : List ℕ) → built_from a (stored n s d) P L ≡ if_rows n (query n (drop a P) (drop a L) s d)
 stored_as a zero s d P L = refl

@@ -3,7 +3,7 @@ use Rattle.std.specs.Prelude as code
 use mathlib.Core.Path.{◌≡◌, refl, sym, ap, subst, ◌∙◌}
 use mathlib.Core.Bool.{Bool}
 use mathlib.Core.List.{List, [], ◌++◌, append-nil}
-use Prim.Native.Nat.{ℕ, ◌+◌, ◌-◌, ◌≤◌, ◌<◌}
+use Prim.Native.Nat.{ℕ, ◌+◌, ◌-◌, ◌≤◌}
 use native.Mathlib.Omega.{arith}
 use lib.ListN.{length, get_or, take, drop, length-drop, length-append}
 use lib.Seq.{take_all, drop-drop, drop-length, drop_at, length-take-le}
@@ -38,12 +38,6 @@ length_put a P X le e =
     let r = length-drop (length P - a) (drop a P) in
     let m = e ∙ ap length (lent_is a P) ∙ d in
     rw (length-append, length-append, length-take-le a P le, m, r, d) (omega arith)
-
--- what reading an operand asks
-pub latest_asks : (p : Pool) (n : ℕ) → InOrder p n → (k : ℕ) → k < n
-    → (k + 1 < length p.first) × (k < length p.s) × (k < length p.d) × (get_or p.first k 0 ≤ get_or p.first (k + 1) 0)
-latest_asks p n o k lt =
-    (omega (arith, o.firsts, o.few), omega (arith, o.marks_s, o.few), omega (arith, o.marks_d, o.few), o.up k lt)
 
 module _ (p : Pool) (n : ℕ) (le : 2 ≤ n) (order : InOrder p n) (a : ℕ) (ea : a ≡ get_or p.first (n - 2) 0)
     (q₁ q₂ : code.Option Built) (e₁ : q₁ ≡ built p (n - 2)) (e₂ : q₂ ≡ built p (n - 2 + 1)) where

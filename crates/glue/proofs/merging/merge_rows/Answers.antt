@@ -1,8 +1,7 @@
 -- The loops take row y out. Then the row of x is written, wherever it stands now.
-use mathlib.Core.Path.{refl, ◌∙◌}
+use mathlib.Core.Path.{refl}
 use native.Mathlib.Omega.{arith}
-use lib.ListN.{length-set}
-use Rattle.glue.proofs.Merged.{moved_row, merged_end}
+use Rattle.glue.proofs.Merged.{merged_end}
 use Rattle.glue.proofs.merging.merge_rows.Goals as goal
 
 pub returns : goal.returns

@@ -1,7 +1,6 @@
 use mathlib.Core.Path.{sym}
 use native.Mathlib.Omega.{arith}
-use Rattle.rows.specs.Table.{table}
-use Rattle.glue.proofs.Depth.{depth_start, depth_top, depth_up, depth_out}
+use Rattle.glue.proofs.Depth.{depth_top, depth_up}
 use Rattle.glue.proofs.trees.depth_of.Goals as goal
 
 pub returns-in_default : goal.returns-in_default

@@ -5,9 +5,8 @@ use Rattle.glue.proofs.Shift.{links_small}
 use Rattle.glue.proofs.TwoTrees.{across_safe, across_end}
 use Rattle.glue.proofs.trees.glue_across.Goals as goal
 
-pub shift_rows-requires : goal.shift_rows-requires
-shift_rows-requires c =
-    let f = c.requires.rows_fit in record { sizes = (f.small, f.parents); low_links = links_small _ _ _ c.requires.tree_queries.1.tree (let s = f.small in omega arith) }
+pub shift_rows-requires-clause-low_links : goal.shift_rows-requires-clause-low_links
+shift_rows-requires-clause-low_links c = links_small _ _ _ c.requires.tree_queries.1.tree (let s = c.requires.rows_fit.small in omega arith)
 
 pub overflow_add-t-2 : goal.overflow_add-t-2
 overflow_add-t-2 c =

@@ -1,6 +1,5 @@
-use mathlib.Core.Path.{refl}
 use native.Mathlib.Omega.{arith}
-use Rattle.glue.proofs.Sweeping.{swept_start, swept_end, here_more}
+use Rattle.glue.proofs.Sweeping.{swept_end}
 use Rattle.glue.proofs.Shift.{shift_small, shift_end}
 use Rattle.glue.proofs.trees.shift_rows.Goals as goal
 

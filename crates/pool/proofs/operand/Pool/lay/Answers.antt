@@ -1,18 +1,8 @@
 -- The top and the child are written, and the sign tells how many there are.
 use mathlib.Core.Path.{refl}
 use native.Mathlib.Omega.{arith}
-use lib.ListN.{length-set}
 use Rattle.pool.proofs.Laying.{laid_made}
 use Rattle.pool.proofs.operand.Pool.lay.Goals as goal
-
-pub bounds-self-v : goal.bounds-self-v
-bounds-self-v c = let e = c.start-u.ensures.0 in rw length-set (omega arith)
-
-pub bounds-self-v-2 : goal.bounds-self-v-2
-bounds-self-v-2 c = let e = c.start-u.ensures.0 in rw length-set (omega arith)
-
-pub returns-clause-rows : goal.returns-clause-rows
-returns-clause-rows c = record { parent = _; label = _; same = refl; parents = rw (length-set, length-set) refl; labels = rw (length-set, length-set) refl }
 
 pub returns-clause-latest : goal.returns-clause-latest
 returns-clause-latest c e q =
