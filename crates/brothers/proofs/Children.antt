@@ -21,7 +21,7 @@ use Rattle.onto.specs.Onto.{OntoRow, Stands}
 use Rattle.onto.proofs.Brothers.{brother_range, brother_opens, brother_apart}
 use Rattle.onto.proofs.Left.{not_both, left_bare, left_here, left_away, left_ind, any_of_row, row_of_any}
 use Rattle.onto.proofs.Onto.{stands_opens}
-use Rattle.brothers.specs.Brothers.{Child, Listed, Foldable, Searchable, FirstFoldable, Loses, TakenOut, NoneFold, Goes, Only, ChildrenFolded}
+use Rattle.brothers.specs.Brothers.{Child, Listed, Foldable, Searchable, NoneFrom, Loses, TakenOut, NoneFold, Goes, Only, ChildrenFolded}
 use Rattle.brothers.proofs.Listing.{Whence, stood, lists_less}
 
 onto_same : {a a' b b' : Tag} {k k' j j' : Forest Tag} → a ≡ a' → k ≡ k' → b ≡ b' → j ≡ j' → Onto a k b j → Onto a' k' b' j'
@@ -162,12 +162,12 @@ searched_none t p = record { long = refl; only = λ j. inl refl; equal = equal_r
 abbrev pub Clear : Nodes → List ℕ → ℕ → ℕ → Type 0
 Clear t child k i = (x : ℕ) → x < i → ¬ Foldable t child k x
 
-pub clear_on : {t : Nodes} {child : List ℕ} {k i r : ℕ} → Clear t child k i → FirstFoldable t child i k r → Clear t child k r
-clear_on {i = i} A F x l f = go (dec_lt x i)
+pub clear_on : (t : Nodes) (child : List ℕ) (k i r : ℕ) → Clear t child k i → NoneFrom t child i k r → Clear t child k r
+clear_on t child k i r A F x l f = go (dec_lt x i)
   where
     go : Dec (x < i) → ⊥
     go (yes m) = A x m f
-    go (no m) = F.before x l (omega arith) f
+    go (no m) = F x l (omega arith) f
 
 -- no two brothers fold, if no row of one that is still there folds onto the row of another
 module _ (t : Nodes) where
@@ -197,9 +197,8 @@ module _ {t : Nodes} {p : ℕ} {mark' : List ℕ} (S : Stands t p) (W : Searched
   T : Stands (marked t mark') p
   T = record { some = S.some; few = S.few; held = S.held }
 
-  pub searchable : {i : ℕ} → i ≤ k → Searchable (marked t mark') child i k
-  searchable l = record {
-    begun = l;
+  pub searchable : Searchable (marked t mark') child k
+  searchable = record {
     few = L.few;
     stand = λ j m. stands_opens T (brother_opens t.span _ _ (below t.span p) S.held _ (L.each j m).brother) refl;
   }

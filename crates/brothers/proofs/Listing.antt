@@ -10,11 +10,14 @@ use native.Mathlib.Decide.{ℕ_discrete, dec_lt}
 use lib.ListN.{length, get_or, set}
 use lib.Seq.{get_or-set_same, get_or-set_other}
 use Rattle.meaning.specs.Limits.{most_nodes}
+use Rattle.std.proofs.Common.{Some}
 use Rattle.rows.specs.Rows.{below, Holds}
+use Rattle.rows.specs.Brothers.{GivesBrother}
+use Rattle.rows.specs.declared.brothers.Brothers.{Brothers}
 use Rattle.onto.specs.Left.{gone_at}
 use Rattle.brothers.specs.Brothers.{Child, Lists, Listed}
 use Rattle.onto.proofs.Left.{not_both}
-use Rattle.onto.proofs.Brothers.{brother_range, Over, over_child, over_step, over_split}
+use Rattle.onto.proofs.Brothers.{brother_range, Over, over_child, over_passes, over_split}
 
 -- ------------------------------------------------------------------ lists
 -- the rows that are P are those that are Q
@@ -143,19 +146,19 @@ list_start mark span p child h =
       once = λ i j l. absurd (omega arith);
     }
 
-module _ {mark span child : List ℕ} {p c e k : ℕ} {P : ℕ → Type 0} (O : Over span p P c e) (L : Lists (Before mark span p c) child k) where
-  pub list_all : e ≤ c → Listed mark span p child k
-  list_all l = lists_same L (λ x b. b.0) (λ x t. (t, omega (arith, brother_range span _ _ (below span p) O.held x t.brother)))
+module _ {mark span child : List ℕ} {p k : ℕ} {P : ℕ → Type 0} {b : Brothers} (O : Over span p P b) (L : Lists (Before mark span p b.next) child k) where
+  pub list_all : b.end ≤ b.next → Listed mark span p child k
+  list_all l = lists_same L (λ x z. z.0) (λ x t. (t, omega (arith, brother_range span _ _ (below span p) O.held x t.brother)))
 
-  module _ (l : c < e) {s : ℕ} (q : s ≡ get_or span c 0) where
+  module _ {c : ℕ} (b' : Brothers) (G : GivesBrother b (Some c) b') where
     -- row c, which stands behind the list, is there
-    pub list_child : gone_at mark c ≡ false → k < most_nodes → get_or child k 0 ≡ c → Lists (Before mark span p (c + s)) child (k + 1)
+    pub list_child : gone_at mark c ≡ false → k < most_nodes → get_or child k 0 ≡ c → Lists (Before mark span p b'.next) child (k + 1)
     list_child d r h =
-        lists_more L r h (λ b. omega (arith, b.1)) (record { brother = (over_child O l).0; there = d }, omega (arith, over_step O l q))
-        (λ x b. (b.0, omega (arith, b.1))) (λ x b. ⊎_elim (λ m. inl (b.0, m)) inr (over_split O l q x b.0.brother b.1))
+        lists_more L r h (λ z. omega (arith, z.1, G.0)) (record { brother = (over_child O b' G).0; there = d }, over_passes O b' G)
+        (λ x z. (z.0, omega (arith, z.1, G.0, over_passes O b' G))) (λ x z. ⊎_elim (λ m. inl (z.0, omega (arith, G.0))) inr (over_split O b' G x z.0.brother z.1))
 
     -- row c has gone
-    pub list_gone : gone_at mark c ≡ true → Lists (Before mark span p (c + s)) child k
+    pub list_gone : gone_at mark c ≡ true → Lists (Before mark span p b'.next) child k
     list_gone d =
-        lists_same L (λ x b. (b.0, omega (arith, b.1)))
-        (λ x b. (b.0, ⊎_elim (λ m. m) (λ z. not_both d (rw z at b.0.there)) (over_split O l q x b.0.brother b.1)))
+        lists_same L (λ x z. (z.0, omega (arith, z.1, G.0, over_passes O b' G)))
+        (λ x z. (z.0, ⊎_elim (λ m. omega (arith, G.0)) (λ e. not_both d (rw e at z.0.there)) (over_split O b' G x z.0.brother z.1)))

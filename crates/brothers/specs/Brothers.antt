@@ -1,10 +1,10 @@
 -- The children of one row folded to the end (01, Folding): the list of those that are there, the search for the first that folds onto another
 -- one, and what is left.
-use Rattle.std.specs.Prelude.{◌≡◌, ◌⊎◌, false, List, ℕ, suc, ◌+◌, ◌≤◌, ◌<◌, length, get_or, set}
+use Rattle.std.specs.Prelude.{◌≡◌, ◌⊎◌, false, Option, None, Some, List, ℕ, ◌≤◌, ◌<◌, length, get_or, set}
 use Rattle.meaning.specs.Limits.{most_nodes}
 use Rattle.meaning.specs.Tree.{Forest, bare, tree, Tag, Any}
 use Rattle.meaning.specs.Folding.{Folds, Onto}
-use Rattle.rows.specs.Rows.{below, Holds}
+use Rattle.rows.specs.Rows.{below}
 use Rattle.onto.specs.Left.{Nodes, marked, gone_at, Gone, Brother, left_below}
 use Rattle.onto.specs.Onto.{OntoRow, Stands}
 
@@ -13,13 +13,6 @@ use Rattle.onto.specs.Onto.{OntoRow, Stands}
 pub record Child (mark span : List ℕ) (p x : ℕ) : Type 0 where
   pub brother : Brother x (below span p)
   pub there : gone_at mark x ≡ false
-
--- row p and all below it are laid out in image order, and there is room to list them
-pub record Listable (span : List ℕ) (p : ℕ) (child : List ℕ) : Type 0 where
-  pub some : 1 ≤ get_or span p 0
-  pub few : p + get_or span p 0 ≤ most_nodes
-  pub held : Holds span (suc p) (p + get_or span p 0) (below span p)
-  pub room : most_nodes ≤ length child
 
 -- the first k of the list are the rows that are P, each once
 pub record Lists (P : ℕ → Type 0) (child : List ℕ) (k : ℕ) : Type 0 where
@@ -36,18 +29,19 @@ Listed mark span p child k = Lists (Child mark span p) child k
 abbrev pub Foldable : Nodes → List ℕ → ℕ → ℕ → Type 0
 Foldable t child k i = (j : ℕ) × (j < k) × (¬ (i ≡ j)) × OntoRow t (get_or child i 0) t (get_or child j 0)
 
--- k listed rows, to be searched from place `from` on
-pub record Searchable (t : Nodes) (child : List ℕ) (from k : ℕ) : Type 0 where
-  pub begun : from ≤ k
+-- k listed rows, to be searched
+pub record Searchable (t : Nodes) (child : List ℕ) (k : ℕ) : Type 0 where
   pub few : k ≤ most_nodes
   pub stand : (i : ℕ) → i < k → Stands t (get_or child i 0)
 
--- r is the first place from `from` on at which a foldable row is listed, or k where there is none
-pub record FirstFoldable (t : Nodes) (child : List ℕ) (from k r : ℕ) : Type 0 where
-  pub begun : from ≤ r
-  pub until : r ≤ k
-  pub before : (i : ℕ) → i < r → from ≤ i → ¬ Foldable t child k i
-  pub here : r < k → Foldable t child k r
+-- of the places from `from` up to r none has a foldable row
+abbrev pub NoneFrom : Nodes → List ℕ → ℕ → ℕ → ℕ → Type 0
+NoneFrom t child from k r = (i : ℕ) → i < r → from ≤ i → ¬ Foldable t child k i
+
+-- the first place from `from` on at which a foldable row is listed, or there is none
+abbrev pub FirstFoldable : Nodes → List ℕ → ℕ → ℕ → Option ℕ → Type 0
+FirstFoldable t child from k None = NoneFrom t child from k k
+FirstFoldable t child from k (Some r) = (from ≤ r) × (r < k) × NoneFrom t child from k r × Foldable t child k r
 
 -- row a goes, and no more changes
 pub record Loses (mark : List ℕ) (a : ℕ) (mark' : List ℕ) : Type 0 where

@@ -15,10 +15,11 @@ use borrow.Author.Tests.{eq-eqb, ne_eqb}
 use Rattle.meaning.specs.Limits.{most_nodes}
 use Rattle.meaning.specs.Tree.{Forest, bare, tree, size}
 use Rattle.rows.specs.Rows.{tag_at, shape, map_t, tree_rows, Holds, width, Counted, Hung, no_row}
+use Rattle.rows.specs.declared.TreeRows.{TreeRows}
 use Rattle.rows.proofs.Rows.{size_map_t, width_map_t, size_holds, holds_is, row_opens, rows_top, row_up}
 use Rattle.onto.specs.Left.{gone_at, Gone, kept, left}
 use Rattle.onto.proofs.Left.{not_both, kept_bare, kept_here, kept_away}
-use Rattle.fold.specs.Kept.{Remains, parent_moved, Movable, RowMoved, RowsKept}
+use Rattle.fold.specs.Kept.{Remains, parent_moved, Movable, RowMoved, RowsKept, SameShape}
 
 -- ------------------------------------------------------------------ the nodes of a forest in image order
 -- a number for each node, by its row and what lies below it
@@ -169,6 +170,12 @@ module _ {code₀ mark₀ up code mark parent moved : List ℕ} {i j : ℕ} {cod
             (get_or-set_same parent j (parent_moved up moved i) 0 lp ∙ sym (parent_same up moved i j i a (omega arith)));
         above = a;
       }
+
+pub same_shape : (t : TreeRows) → SameShape t t
+same_shape t = record { kids = refl; span = refl; up = refl; len = refl }
+
+pub same_shapes : {t t' t'' : TreeRows} → SameShape t t' → SameShape t' t'' → SameShape t t''
+same_shapes r s = record { kids = s.kids ∙ r.kids; span = s.span ∙ r.span; up = s.up ∙ r.up; len = s.len ∙ r.len }
 
 -- ------------------------------------------------------------------ the loop
 -- the walk stands at row i, and the first j rows_of have their places

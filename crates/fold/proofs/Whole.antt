@@ -87,11 +87,8 @@ settled_none t n =
     record { until = omega arith; long = refl; only = λ j. inl refl; equal = λ q l m. absurd (omega arith); reduced = λ q l m. absurd (omega arith) }
 
 module _ {t : Nodes} {n : ℕ} (R : Whole t.mark t.span n) {b : ℕ} {mark' : List ℕ} (T : Settled t n b mark') where
-  pub settled_stands : (p : ℕ) → p < n → Stands (marked t mark') p × (p + get_or t.span p 0 ≤ length mark')
-  settled_stands p l =
-      let o = row_opens t.span n R.laid p l in
-      let i = o.inside in
-      (record { some = o.some; few = omega (arith, R.few); held = o.held }, omega (arith, R.marks, T.long))
+  pub settled_stands : (p : ℕ) → p < n → Stands (marked t mark') p
+  settled_stands p l = let o = row_opens t.span n R.laid p l in record { some = o.some; few = omega (arith, o.inside, R.few); held = o.held }
 
   -- rows bear what they bore
   settled_tag : (i : ℕ) → tag_of (marked t mark') i ≡ tag_of t i

@@ -4,6 +4,7 @@ use Rattle.meaning.specs.Limits.{most_nodes}
 use Rattle.meaning.specs.Folding.{minimal}
 use Rattle.meaning.specs.Image.{ordered}
 use Rattle.rows.specs.Rows.{shape, tree_rows, Holds, width, no_row, Rows}
+use Rattle.rows.specs.declared.TreeRows.{TreeRows}
 use Rattle.onto.specs.Left.{Nodes, nodes, marked, gone_at, Gone, kept_tree}
 
 -- ------------------------------------------------------------------ folding to the end
@@ -50,6 +51,13 @@ pub record RowMoved (code mark up : List ℕ) (i : ℕ) (parent moved : List ℕ
   pub marks : mark' ≡ set mark j (get_or mark i 0)
   pub parents : parent' ≡ set parent j (parent_moved up moved i)
   pub moves : moved' ≡ set moved i j
+
+-- labels and marks may have changed, and no more
+pub record SameShape (t t' : TreeRows) : Type 0 where
+  pub kids : t'.kids ≡ t.kids
+  pub span : t'.span ≡ t.span
+  pub up : t'.up ≡ t.up
+  pub len : t'.len ≡ t.len
 
 -- the first r rows are those of the tree that was left, in image order; their spans and numbers of children are written nowhere
 pub record RowsKept (code mark span : List ℕ) (n : ℕ) (code' mark' parent : List ℕ) (r : ℕ) : Type 0 where

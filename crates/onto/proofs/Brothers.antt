@@ -1,15 +1,16 @@
--- A loop over brothers: row a is the first of those that are left, the next one stands at a + span a. What the loop has shown of every brother before a
--- holds of all brothers at the end.
-use mathlib.Core.Path.{◌≡◌, refl, sym, subst, ◌∙◌}
+-- A loop over brothers: what it has shown of every brother before the row that comes next holds of all brothers at the end.
+use mathlib.Core.Path.{◌≡◌, sym, subst, ◌∙◌}
 use mathlib.Core.Logic.{◌⊎◌, inl, inr, ⊎_elim}
 use mathlib.Core.List.{List}
 use Prim.Native.Nat.{ℕ, suc, ◌+◌, ◌≤◌, ◌<◌}
 use native.Mathlib.Omega.{arith}
-use native.Mathlib.Numerals.{add-one}
 use native.Mathlib.Decide.{ℕ_discrete, dec_lt}
 use lib.ListN.{get_or}
+use Rattle.std.proofs.Common.{Some}
 use Rattle.meaning.specs.Tree.{Forest, bare, tree, size}
 use Rattle.rows.specs.Rows.{below, Holds}
+use Rattle.rows.specs.Brothers.{GivesBrother}
+use Rattle.rows.specs.declared.brothers.Brothers.{Brothers}
 use Rattle.rows.proofs.Rows.{size_holds, Opens, holds_opens}
 use Rattle.onto.specs.Left.{Brother}
 
@@ -58,45 +59,53 @@ module _ (span : List ℕ) where
       go (no z) (no d) f = f (omega arith)
 
 -- ------------------------------------------------------------------ a loop over the children of row p
--- it has come to row a, the rows of p end at e, and P holds of each child before row a
-pub record Over (span : List ℕ) (p : ℕ) (P : ℕ → Type 0) (a e : ℕ) : Type 0 where
-  pub ends : e ≡ p + get_or span p 0
-  pub held : Holds span (suc p) e (below span p)
-  pub here : (a ≡ e) ⊎ Brother a (below span p)
-  pub shown : (x : ℕ) → Brother x (below span p) → x < a → P x
+-- the iterator has come to a row, and P holds of each child before it
+pub record Over (span : List ℕ) (p : ℕ) (P : ℕ → Type 0) (b : Brothers) : Type 0 where
+  pub same : b.span.now ≡ span
+  pub ends : b.end ≡ p + get_or span p 0
+  pub held : Holds span (suc p) b.end (below span p)
+  pub here : (b.next ≡ b.end) ⊎ Brother b.next (below span p)
+  pub shown : (x : ℕ) → Brother x (below span p) → x < b.next → P x
 
-pub over_start : {span : List ℕ} {p e : ℕ} {P : ℕ → Type 0} → e ≡ p + get_or span p 0 → Holds span (suc p) (p + get_or span p 0) (below span p)
-    → Over span p P (p + 1) e
-over_start {span} {p} q h =
-    rw (q, add-one)
-    (record {
-      ends = refl;
-      held = h;
-      here = brother_first span _ _ (below span p) h;
-      shown = λ x t l. absurd (omega (arith, brother_range span _ _ (below span p) h x t));
-    })
+pub over_start : {span : List ℕ} {p : ℕ} {P : ℕ → Type 0} {b : Brothers} → Holds span (suc p) (p + get_or span p 0) (below span p)
+    → (b.next ≡ p + 1) × (b.end ≡ p + get_or span p 0) × (b.span.now ≡ span) → Over span p P b
+over_start {span} {p} {b = b} h q =
+    let n : b.next ≡ suc p = omega (arith, q.0) in
+    record {
+      same = q.2;
+      ends = q.1;
+      held = rw q.1 h;
+      here = rw (n, q.1) (brother_first span _ _ (below span p) h);
+      shown = λ x t l. absurd (omega (arith, n, brother_range span _ _ (below span p) h x t));
+    }
 
-module _ {span : List ℕ} {p : ℕ} {P : ℕ → Type 0} {a e : ℕ} (O : Over span p P a e) where
-  -- row a is the next child
-  pub over_child : a < e → Brother a (below span p) × Opens span a e
-  over_child l = let t = ⊎_elim (λ q. absurd (omega arith)) (λ t. t) O.here in (t, brother_opens span _ _ (below span p) O.held a t)
-
-  -- s more rows lead to the next one
-  pub over_step : a < e → {s : ℕ} → s ≡ get_or span a 0 → (1 ≤ s) × (a + s ≤ e)
-  over_step l q = let o = (over_child l).1 in (omega (arith, o.some), omega (arith, o.inside))
-
-  -- of the children before that one, row a is the last
-  pub over_split : a < e → {s : ℕ} → s ≡ get_or span a 0 → (x : ℕ) → Brother x (below span p) → x < a + s → (x < a) ⊎ (x ≡ a)
-  over_split l q = rw q (brother_next span _ _ (below span p) O.held a (over_child l).0).1
-
-  pub over_next : a < e → {s : ℕ} → s ≡ get_or span a 0 → P a → Over span p P (a + s) e
-  over_next l q z =
-      record {
-        ends = O.ends;
-        held = O.held;
-        here = rw q (brother_next span _ _ (below span p) O.held a (over_child l).0).0;
-        shown = λ x t m. ⊎_elim (O.shown x t) (λ w. rw w z) (over_split l q x t m);
-      }
-
-  pub over_all : e ≤ a → (x : ℕ) → Brother x (below span p) → P x
+module _ {span : List ℕ} {p : ℕ} {P : ℕ → Type 0} {b : Brothers} (O : Over span p P b) where
+  pub over_all : b.end ≤ b.next → (x : ℕ) → Brother x (below span p) → P x
   over_all l x t = O.shown x t (omega (arith, brother_range span _ _ (below span p) O.held x t))
+
+  module _ {c : ℕ} (b' : Brothers) (G : GivesBrother b (Some c) b') where
+    -- the row that is given is the next child
+    pub over_child : Brother c (below span p) × Opens span c b.end
+    over_child =
+        let t : Brother c (below span p) = rw G.0 (⊎_elim (λ q. absurd (omega (arith, G.1))) (λ t. t) O.here) in
+        (t, brother_opens span _ _ (below span p) O.held c t)
+
+    over_past : b'.next ≡ c + get_or span c 0
+    over_past = rw O.same at G.3
+
+    pub over_passes : c < b'.next
+    over_passes = omega (arith, over_past, over_child.1.some)
+
+    -- of the children before the one that is next then, it is the last
+    pub over_split : (x : ℕ) → Brother x (below span p) → x < b'.next → (x < c) ⊎ (x ≡ c)
+    over_split = rw over_past (brother_next span _ _ (below span p) O.held c over_child.0).1
+
+    pub over_next : P c → Over span p P b'
+    over_next z =
+        record {
+          same = rw G.2 O.same;
+          ends = G.4 ∙ O.ends;
+          held = rw G.4 O.held;
+          here = rw (over_past, G.4) (brother_next span _ _ (below span p) O.held c over_child.0).0;
+          shown = λ x t m. ⊎_elim (λ w. O.shown x t (rw G.0 at w)) (λ w. rw w z) (over_split x t m);
+        }

@@ -11,8 +11,9 @@ use Rattle.meaning.specs.Tree.{Forest, bare, tree, Tag, Any}
 use Rattle.meaning.specs.Folding.{Folds, Onto}
 use Rattle.theory.proofs.Look.{never}
 use Rattle.rows.specs.Rows.{below, map_t, Holds}
+use Rattle.rows.specs.declared.TreeRows.{TreeRows}
 use Rattle.rows.proofs.Rows.{Opens, holds_first}
-use Rattle.onto.specs.Left.{Nodes, tag_of, gone_at, Brother, kept, left, left_below}
+use Rattle.onto.specs.Left.{Nodes, Remarked, tag_of, gone_at, Brother, kept, left, left_below}
 
 -- no row has gone and is still there
 pub not_both : {A : Type 0} {b : Bool} → b ≡ true → b ≡ false → A
@@ -107,3 +108,11 @@ module _ (t : Nodes) where
           λ d f. ⊎_elim (λ n. rw n f.0) (y f.1),
           λ d f. ⊎_elim (λ n. not_both d (rw n at q)) (y f),
         )) F h f b
+
+-- ------------------------------------------------------------------ rows of which marks alone change
+pub remarked_none : (t : TreeRows) → Remarked t t
+remarked_none t = record { code = refl; kids = refl; span = refl; up = refl; len = refl }
+
+pub remarked_more : {t t' t'' : TreeRows} → Remarked t t' → Remarked t' t'' → Remarked t t''
+remarked_more r s =
+    record { code = s.code ∙ r.code; kids = s.kids ∙ r.kids; span = s.span ∙ r.span; up = s.up ∙ r.up; len = s.len ∙ r.len }

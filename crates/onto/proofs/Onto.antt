@@ -7,6 +7,7 @@ use mathlib.Core.List.{List}
 use Prim.Native.Nat.{ℕ, zero, suc, ◌+◌, ◌/◌, ◌%◌, ◌^◌, ◌≤◌, ◌<◌}
 use native.Mathlib.Omega.{arith}
 use lib.ListN.{get_or}
+use Rattle.std.proofs.Common.{Some}
 use lib.Dec.{eqb}
 use lib.Bits.{bit_and, bit_or, and_mod}
 use borrow.Author.Tests.{eqb-true, eqb-false}
@@ -17,11 +18,13 @@ use Rattle.theory.proofs.Look.{never}
 use Rattle.theory.proofs.Canon.{height}
 use Rattle.bits.specs.Bits.{bit_of, all_to}
 use Rattle.bits.proofs.Bits.{all_to_lem, both}
-use Rattle.rows.specs.Rows.{lab_of, below, Holds}
-use Rattle.rows.proofs.Rows.{Opens, holds_first}
+use Rattle.rows.specs.Rows.{lab_of, below, Holds, Reaches}
+use Rattle.rows.specs.Brothers.{GivesBrother}
+use Rattle.rows.specs.declared.brothers.Brothers.{Brothers}
+use Rattle.rows.proofs.Rows.{Opens, holds_first, holds_opens}
 use Rattle.onto.specs.Left.{Nodes, gone_at, Gone, Brother}
 use Rattle.onto.specs.Onto.{Tells, so, not_so, MarksLe, FitsLeft, ChildrenFold, OntoRow, Lands, Stands}
-use Rattle.onto.proofs.Brothers.{Over, over_start, over_child, over_all}
+use Rattle.onto.proofs.Brothers.{brother_range, Over, over_child, over_all}
 use Rattle.onto.proofs.Left.{any_of_row, row_of_any, folds_of_rows, row_of_folds}
 
 -- ------------------------------------------------------------------ answers that tell
@@ -46,6 +49,10 @@ module _ {P : Type 0} where
 pub rest_tells : {P Q : Type 0} {r : Bool} → P → Tells Q r → Tells (P × Q) r
 rest_tells p t = same_tells (λ q. (p, q)) (λ z. z.1) t
 
+-- without P there is no Q
+pub fails : {P Q : Type 0} {r : Bool} → (Q → P) → Tells P r → r ≡ false → Tells Q r
+fails f t e = rw e (not_so (λ q. no_told t e (f q)))
+
 pub eqb_tells : (x y : ℕ) → Tells (x ≡ y) (eqb x y)
 eqb_tells x y = go (eqb x y) refl
   where
@@ -60,9 +67,9 @@ same_bool false false e = refl
 same_bool true false e = never cc
 same_bool false true e = never cc
 
-pub marks_none : (s t : ℕ) → s ≡ 0 → MarksLe s t
+pub marks_none : (s t : ℕ) → s ≡ 0 → Tells (MarksLe s t) (eqb s 0)
 unfolding bit_of
-marks_none s t e = rw e (tt, tt)
+marks_none s t e = rw e (so (tt, tt))
 
 abbrev marks_fit : ℕ → ℕ → Bool
 marks_fit s t = is (dec_both (dec_mark (bit_of s 0) (bit_of t 0)) (dec_mark (bit_of s 1) (bit_of t 1)))
@@ -97,8 +104,8 @@ goes_away m l =
     let z = both _ _ (all_to_lem 256 _ all_go m l) in
     record { away = z.0; other = λ k b. same_bool _ _ (all_to_lem 7 _ z.1 k b) }
 
-pub label_any : (x y : ℕ) → x ≡ 0 → LabLe (lab_of x) (lab_of y)
-label_any x y e = rw e tt
+pub label_any : (x y : ℕ) → x ≡ 0 → Tells (LabLe (lab_of x) (lab_of y)) (eqb x 0)
+label_any x y e = rw e (so tt)
 
 label_same : (x : ℕ) → LabLe (lab_of x) (lab_of x)
 label_same zero = tt
@@ -124,37 +131,47 @@ module _ {t : Nodes} {u : ℕ} (S : Stands t u) where
   pub stands_opens : {a e : ℕ} → Opens t.span a e → e ≡ u + get_or t.span u 0 → Stands t a
   stands_opens o q = record { some = o.some; few = omega (arith, o.inside, S.few); held = o.held }
 
-  module _ {a e : ℕ} {P : ℕ → Type 0} (O : Over t.span u P a e) (l : a < e) where
-    pub stands_child : Stands t a
-    stands_child = stands_opens (over_child O l).1 O.ends
+  -- it and all below it reach as far as their spans say
+  pub stands_reaches : Reaches t.span u
+  stands_reaches =
+      record {
+        within = omega (arith, S.some, S.few);
+        inside = S.few;
+        onward = λ c a b. (holds_opens t.span _ _ (below t.span u) S.held c (omega arith) b).some;
+      }
+
+  module _ {P : ℕ → Type 0} {b : Brothers} {c : ℕ} (O : Over t.span u P b) (b' : Brothers) (G : GivesBrother b (Some c) b') where
+    pub stands_child : Stands t c
+    stands_child = stands_opens (over_child O b' G).1 O.ends
 
     -- "the height of u falling"
-    pub height_falls : height (below t.span a) < height (below t.span u)
-    height_falls = height_child t.span _ _ (below t.span u) O.held a (over_child O l).0
+    pub height_falls : height (below t.span c) < height (below t.span u)
+    height_falls = height_child t.span _ _ (below t.span u) O.held c (over_child O b' G).0
 
 -- ------------------------------------------------------------------ the loops of the test
 -- row a does not fold onto y, if y is still there
 abbrev pub Misses : Nodes → ℕ → Nodes → ℕ → Type 0
 Misses t a t' y = gone_at t'.mark y ≡ false → ¬ OntoRow t a t' y
 
-module _ {t t' : Nodes} {a v b e : ℕ} (S : Stands t a) (R : Stands t' v) (O : Over t'.span v (Misses t a t') b e) where
-  pub lands_here : b < e → FitsLeft t.code t.mark t'.code t'.mark a b → ChildrenFold t a t' b → Lands t a t' v
-  lands_here l f g = any_of_row t' _ _ (below t'.span v) O.held _ b (over_child O l).0 f.0 (f.1, g)
+module _ (t : Nodes) (a : ℕ) (t' : Nodes) (v : ℕ) {b : Brothers} (O : Over t'.span v (Misses t a t') b) where
+  pub lands_here : {c : ℕ} (b' : Brothers) → GivesBrother b (Some c) b' → FitsLeft t a t' c → ChildrenFold t a t' c → Lands t a t' v
+  lands_here {c} b' G f g = any_of_row t' _ _ (below t'.span v) O.held _ c (over_child O b' G).0 f.0 (f.1, g)
 
-  pub lands_nowhere : e ≤ b → ¬ Lands t a t' v
+  pub lands_nowhere : b.end ≤ b.next → ¬ Lands t a t' v
   lands_nowhere l x = let w = row_of_any t' _ _ (below t'.span v) O.held _ x in over_all O l w.0 w.1 w.2 w.3
 
 -- row x, if it is still there, folds onto some child of v
 abbrev pub Landed : Nodes → Nodes → ℕ → ℕ → Type 0
 Landed t t' v x = gone_at t.mark x ≡ false → Lands t x t' v
 
-module _ {t t' : Nodes} {u v a e : ℕ} (S : Stands t u) (R : Stands t' v) (O : Over t.span u (Landed t t' v) a e) where
-  pub all_landed : e ≤ a → ChildrenFold t u t' v
+module _ (t : Nodes) (u : ℕ) (t' : Nodes) (v : ℕ) {b : Brothers} (O : Over t.span u (Landed t t' v) b) where
+  pub all_landed : b.end ≤ b.next → ChildrenFold t u t' v
   all_landed l = folds_of_rows t _ _ (below t.span u) O.held _ (over_all O l)
 
-  pub none_landed : a < e → gone_at t.mark a ≡ false → ¬ Lands t a t' v → ¬ ChildrenFold t u t' v
-  none_landed l q n f = n (row_of_folds t _ _ (below t.span u) O.held _ f a (over_child O l).0 q)
+  pub none_landed : {c : ℕ} (b' : Brothers) → GivesBrother b (Some c) b' → gone_at t.mark c ≡ false → ¬ Lands t c t' v → ¬ ChildrenFold t u t' v
+  none_landed {c} b' G q n f = n (row_of_folds t _ _ (below t.span u) O.held _ f c (over_child O b' G).0 q)
 
 -- a row with nothing below it
-pub lone_folds : {t t' : Nodes} {u v : ℕ} → Stands t u → Stands t' v → get_or t.span u 0 ≡ 1 → ChildrenFold t u t' v
-lone_folds S R q = all_landed S R (over_start refl S.held) (omega arith)
+pub lone_folds : (t : Nodes) (u : ℕ) (t' : Nodes) (v : ℕ) → Stands t u → get_or t.span u 0 ≡ 1 → ChildrenFold t u t' v
+lone_folds t u t' v S q =
+    folds_of_rows t _ _ (below t.span u) S.held _ (λ x n. absurd (omega (arith, brother_range t.span _ _ (below t.span u) S.held x n)))

@@ -4,6 +4,7 @@ use Rattle.std.specs.Prelude.{◌≡◌, ◌⊎◌, Bool, true, cond, List, ℕ,
 use Rattle.meaning.specs.Tree.{Forest, bare, tree, Tag}
 use Rattle.bits.specs.Bits.{bit_of}
 use Rattle.rows.specs.Rows.{tag_at, below, shape, map_t}
+use Rattle.rows.specs.declared.TreeRows.{TreeRows}
 
 -- the rows of a tree as far as folding reads them: label codes, marks and spans
 pub record Nodes : Type 0 where
@@ -14,9 +15,21 @@ pub record Nodes : Type 0 where
 abbrev pub nodes : List ℕ → List ℕ → List ℕ → Nodes
 nodes code mark span = record { code = code; mark = mark; span = span }
 
+-- those of rows that stand in one value
+abbrev pub nodes_of : TreeRows → Nodes
+nodes_of t = nodes t.code t.mark t.span
+
 -- the same with other marks
 abbrev pub marked : Nodes → List ℕ → Nodes
 marked t mark = nodes t.code mark t.span
+
+-- nothing but marks has changed
+pub record Remarked (t t' : TreeRows) : Type 0 where
+  pub code : t'.code ≡ t.code
+  pub kids : t'.kids ≡ t.kids
+  pub span : t'.span ≡ t.span
+  pub up : t'.up ≡ t.up
+  pub len : t'.len ≡ t.len
 
 -- what row u bears
 abbrev pub tag_of : Nodes → ℕ → Tag

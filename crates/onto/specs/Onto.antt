@@ -1,11 +1,11 @@
 -- The folding test (01, Folding) over rows: "u folds onto v when u's label is a wildcard or equals v's, u's marks are among v's, and every child of u
 -- folds onto some child of v." Children are those that are still there. Row u is one of t, row v one of t'; the two may be the same tree.
-use Rattle.std.specs.Prelude.{◌≡◌, Bool, true, false, List, ℕ, suc, ◌+◌, ◌≤◌, get_or}
+use Rattle.std.specs.Prelude.{◌≡◌, Bool, true, false, ℕ, suc, ◌+◌, ◌≤◌, get_or}
 use Rattle.meaning.specs.Limits.{most_nodes}
 use Rattle.meaning.specs.Tree.{Any}
 use Rattle.meaning.specs.Folding.{MarkLe, TagLe, Folds, Onto}
 use Rattle.bits.specs.Bits.{bit_of}
-use Rattle.rows.specs.Rows.{tag_at, below, Holds}
+use Rattle.rows.specs.Rows.{below, Holds}
 use Rattle.onto.specs.Left.{Nodes, tag_of, gone_at, left_below}
 
 -- an answer that tells whether P is so
@@ -18,8 +18,8 @@ abbrev pub MarksLe : ℕ → ℕ → Type 0
 MarksLe s t = MarkLe (bit_of s 0) (bit_of t 0) × MarkLe (bit_of s 1) (bit_of t 1)
 
 -- row b is still there, and row a's label and marks fit it
-abbrev pub FitsLeft : List ℕ → List ℕ → List ℕ → List ℕ → ℕ → ℕ → Type 0
-FitsLeft code mark code' mark' a b = (gone_at mark' b ≡ false) × TagLe (tag_at code mark a) (tag_at code' mark' b)
+abbrev pub FitsLeft : Nodes → ℕ → Nodes → ℕ → Type 0
+FitsLeft t a t' b = (gone_at t'.mark b ≡ false) × TagLe (tag_of t a) (tag_of t' b)
 
 -- "every child of u folds onto some child of v"
 abbrev pub ChildrenFold : Nodes → ℕ → Nodes → ℕ → Type 0

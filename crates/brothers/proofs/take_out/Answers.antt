@@ -10,6 +10,6 @@ pub returns : goal.returns
 returns c =
     let e = c.wide-c.ensures.0 in record {
       marks = subst (λ x. Loses c.args.mark.now x (set c.args.mark.now c.wide-c.result c.gone.result)) e
-          (loses _ _ _ (omega (arith, e, c.requires.3)) c.gone.ensures);
+          (loses _ _ _ (omega (arith, e, c.requires.2, c.told-mark)) c.gone.ensures);
       list = refl;
     }

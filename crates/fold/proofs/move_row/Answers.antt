@@ -3,4 +3,7 @@ use mathlib.Core.Path.{refl}
 use Rattle.fold.proofs.move_row.Goals as goal
 
 pub returns : goal.returns
-returns c = record { codes = refl; marks = refl; parents = rw c.parent_moved.ensures; moves = refl }
+returns c = (
+  record { codes = refl; marks = refl; parents = rw c.parent_moved.ensures; moves = refl },
+  record { kids = refl; span = refl; up = refl; len = refl },
+)
