@@ -1,7 +1,7 @@
 // Folding rows in image order to the end, and the rows that are left put together.
 #![tactic(auto)]
 
-ghost use Rattle.std.specs.Prelude.{◌≡◌, ◌⊎◌, ◌<◌, length, get_or};
+ghost use Rattle.std.specs.Prelude.{◌≡◌, ◌⊎◌, ◌<◌, length, get_or, set};
 ghost use Rattle.meaning.specs.Limits.{most_nodes};
 ghost use Rattle.rows.specs.Rows.{no_row};
 ghost use Rattle.onto.specs.Left.{nodes_of, Remarked};
@@ -31,26 +31,35 @@ fn parent_moved(up: &Links, moved: &Links, i: usize) -> u16
     if p == NO_ROW { NO_ROW } else { moved[wide(p)] }
 }
 
+// The new place of row i is noted among the numbers of children, which nobody reads any more.
+fn note_place(kids: &mut Links, i: usize, j: usize)
+    requires { (i < most_nodes) × (j < most_nodes) }
+    ensures { (kids.new ≡ set kids.old i j) × (length kids.old ≡ most_nodes) }
+{
+    kids[i] = j as u16;
+}
+
 // Row i is put at place j.
-fn move_row(t: &mut TreeRows, i: usize, parent: &mut Links, moved: &mut Links, j: usize)
+fn move_row(t: &mut TreeRows, i: usize, parent: &mut Links, j: usize)
     requires { Movable t.old.up i j }
-    ensures { RowMoved t.old.code t.old.mark t.old.up i parent.old moved.old j
-        t.new.code t.new.mark parent.new moved.new
-        × SameShape t.old t.new }
+    ensures { RowMoved t.old.code t.old.mark t.old.up i parent.old t.old.kids j
+        t.new.code t.new.mark parent.new t.new.kids
+        × SameShape t.old t.new
+        × (length t.old.kids ≡ most_nodes) }
 {
     t.code[j] = t.code[i];
     t.mark[j] = t.mark[i];
-    parent[j] = parent_moved(&t.up, moved, i);
-    moved[i] = j as u16;
+    parent[j] = parent_moved(&t.up, &t.kids, i);
+    note_place(&mut t.kids, i, j);
 }
 
 // The rows that are still there, in their order, are put to the front, each with the new number of its parent. Returns how many there are.
-pub fn keep_rows(t: &mut TreeRows, parent: &mut Links, moved: &mut Links) -> usize
+// The numbers of children are lent to work in.
+pub fn keep_rows(t: &mut TreeRows, parent: &mut Links) -> usize
     requires { Remains t.old.code t.old.mark t.old.span t.old.up t.old.len }
     ensures { RowsKept t.old.code t.old.mark t.old.span t.old.len
         t.new.code t.new.mark parent.new result
-        × SameShape t.old t.new
-        × (length moved.new ≡ length moved.old) }
+        × SameShape t.old t.new }
 {
     let mut i: usize = 0;
     let mut j: usize = 0;
@@ -59,7 +68,7 @@ pub fn keep_rows(t: &mut TreeRows, parent: &mut Links, moved: &mut Links) -> usi
         if is_gone(&t.mark, i) {
             i += at(&t.span, i);
         } else {
-            move_row(t, i, parent, moved, j);
+            move_row(t, i, parent, j);
             j += 1;
             i += 1;
         }

@@ -1,5 +1,5 @@
-use Prim.Native.Nat.{◌+◌, ◌-◌, ◌≤◌}
-use mathlib.Core.Path.{◌≡◌, sym, ◌∙◌}
+use Prim.Native.Nat.{◌≤◌}
+use mathlib.Core.Path.{sym, ◌∙◌}
 use native.Mathlib.Omega.{arith}
 use lib.ListN.{length}
 use Rattle.meaning.specs.Limits.{most_nodes}
@@ -29,14 +29,13 @@ pub loop-next-preserved : goal.loop-next-preserved
 loop-next-preserved c =
     let v = c.loop-next.invariant in
     let f = c.in-Some.ensures in
-    let q : c.loop-next.k ≡ c.loop-next.k - 1 + 1 = omega (arith, f.1) in
     let r : most_nodes ≤ length c.loop-next.child = omega (arith, v.0) in
-    let w = goes c.requires v.2 v.3 q f.1 r c.take_out.ensures (rw (v.1.code, v.1.span) at f.3) in (
+    let w = goes c.requires v.2 v.3 (omega (arith, f.1)) f.1 r c.take_out.ensures (rw (v.1.code, v.1.span) at f.3) in (
       c.take_out.array_long2,
       record { code = v.1.code; kids = v.1.kids; span = v.1.span; up = v.1.up; len = v.1.len },
       w.0,
       w.1,
-      goes_clear c.requires v.2 v.3 q f.1 r c.take_out.ensures (clear_on _ _ _ _ _ v.4 (rw (v.1.code, v.1.span) at f.2)),
+      goes_clear c.requires v.2 v.3 (omega (arith, f.1)) f.1 r c.take_out.ensures (clear_on _ _ _ _ _ v.4 (rw (v.1.code, v.1.span) at f.2)),
     )
 
 pub returns : goal.returns

@@ -4,7 +4,7 @@ use Rattle.fold.proofs.Moved.{moving_none, moving_step, moving_skip, moving_fits
 use Rattle.fold.proofs.keep_rows.Goals as goal
 
 pub loop-i-init : goal.loop-i-init
-loop-i-init c = (moving_none c.requires _ _, same_shape _, c.told-parent, c.told-moved)
+loop-i-init c = (moving_none c.requires _ _, same_shape _, c.told-parent)
 
 pub loop-i-smaller-then-is_gone : goal.loop-i-smaller-then-is_gone
 loop-i-smaller-then-is_gone c =
@@ -17,7 +17,6 @@ loop-i-preserved-then-is_gone c =
       moving_skip c.requires v.0 (rw v.1.len at c.loop-i-test.true) (sym c.is_gone.ensures ∙ c.if-is_gone.true) (rw v.1.span at c.at-i.ensures.0),
       v.1,
       v.2,
-      v.3,
     )
 
 pub move_row-requires : goal.move_row-requires
@@ -27,13 +26,11 @@ pub loop-i-preserved : goal.loop-i-preserved
 loop-i-preserved c =
     let v = c.loop-i.invariant in let m = c.move_row.ensures in (
       moving_take c.requires v.0 (rw v.1.len at c.loop-i-test.true) (sym c.is_gone.ensures ∙ c.if-is_gone.false)
-          (omega (arith, v.2, c.requires.rows.few)) (omega (arith, v.3, c.requires.rows.few)) (rw v.1.up at m.0),
+          (omega (arith, v.2, c.requires.rows.few)) (omega (arith, m.2, c.requires.rows.few)) (rw v.1.up at m.0),
       same_shapes v.1 m.1,
       c.move_row.array_long,
-      c.move_row.array_long2,
     )
 
 pub returns : goal.returns
 returns c =
-    let v = c.loop-i.invariant in
-    (moving_all c.requires v.0 (rw v.1.len at c.loop-i-test.false) (omega (arith, v.2, c.requires.rows.few)), v.1, v.3 ∙ sym c.told-moved)
+    let v = c.loop-i.invariant in (moving_all c.requires v.0 (rw v.1.len at c.loop-i-test.false) (omega (arith, v.2, c.requires.rows.few)), v.1)
