@@ -65,16 +65,8 @@ fn left_rows(folded: bool, rows: &mut TreeRows, child: &mut Starts, parent: &mut
         *parent = rows.up;
         return;
     }
-    fold::fold_rows(&rows.code, &mut rows.mark, &rows.span, rows.len, child);
-    rows.len = fold::keep_rows(
-        &mut rows.code,
-        &mut rows.mark,
-        &rows.span,
-        &rows.up,
-        rows.len,
-        parent,
-        &mut rows.kids,
-    );
+    fold::fold_rows(rows, child);
+    rows.len = fold::keep_rows(rows, parent);
 }
 
 // The tree of rows with these parents, who stand before their children, with brothers in image order. The rows are written over their own place, from
