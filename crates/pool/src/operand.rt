@@ -23,6 +23,7 @@ pub struct Latest {
 }
 
 // The pool: rows in slices that the caller lends, where each operand's rows start, its marks, and how many operands are pending.
+// An operand that ends where it starts has no rows and is empty: the tables are lent numbers, with no room for an Option (fixed memory).
 #[derive(Drop)]
 pub struct Pool<'a> {
     pub parent: &'a mut [u16],
