@@ -12,10 +12,11 @@ use Rattle.meaning.specs.Basics.{pick}
 use Rattle.meaning.specs.Expression.{Expr, empty, self, child, parent, label, comp, inter, proj1, proj2, inv}
 use Rattle.meaning.specs.Number.{num_f, num}
 use Rattle.meaning.specs.Normal.{joined, all, word_of}
-use Rattle.groups.specs.Put.{put, Written}
-use Rattle.groups.proofs.Put.{put_append}
-pub use Rattle.groups.proofs.Put.{written_nil, written_is, written_then, written_length, written_reached}
-use Rattle.branches.specs.Joining.{joint, run, fill, factor}
+use Rattle.groups.specs.declared.Writer.{Writer}
+use Rattle.groups.specs.Filled.{filled}
+use Rattle.groups.proofs.Put.{length_put}
+use Rattle.groups.proofs.Filled.{filled_then, filled_nil}
+use Rattle.branches.specs.Joining.{joint, run, fill, factor, Fits, Takes, filled_by}
 
 -- ------------------------------------------------------------------ words and their bytes
 num_some : (n : ℕ) → 1 ≤ length (num n)
@@ -58,7 +59,7 @@ fill_nil from at = refl
 
 -- one factor and the sign that joins it
 pub fill_one : (from at : ℕ) (x : Expr) → fill from at (x ∷ []) ≡ factor from at (word_of x)
-unfolding fill run factor
+unfolding fill run
 fill_one from at x = simp append-nil
 
 run_append : (xs ys : List Expr) → run true (xs ++ ys) ≡ run true xs ++ run true ys
@@ -83,20 +84,16 @@ fill_append from at (x ∷ xs) ys l = go (ltb from at)
         rw (z, run_append xs ys) (simp append_assoc)
 
 -- ------------------------------------------------------------------ writing
--- a factor, and then the sign that joins it
-module _ (from at : ℕ) (bs : List ℕ) where
-  pub factor_first : (n : ℕ) → at + length (factor from at bs) ≤ n → at + length bs ≤ n
-  unfolding factor
-  factor_first n l = omega (arith, length-append bs (joint (ltb from at)))
+-- bytes, and then others
+module _ (xs ys : List ℕ) (w : Writer) (l : Fits w (xs ++ ys)) where
+  pub fits_first : Fits w xs
+  fits_first = omega (arith, length-append xs ys)
 
-  pub factor_rest : (n a : ℕ) → a ≡ at + length bs → at + length (factor from at bs) ≤ n → a + length (joint (ltb from at)) ≤ n
-  unfolding factor
-  factor_rest n a p l = omega (arith, length-append bs (joint (ltb from at)))
+  pub fits_rest : {w' : Writer} → w' ≡ filled w xs → Fits w' ys
+  fits_rest e = rw e (omega (arith, length-append xs ys, length_put w.room.now w.length xs))
 
-  pub factor_then : {d d₁ d₂ : List ℕ} {a r : ℕ} → Written d at bs d₁ a → Written d₁ a (joint (ltb from at)) d₂ r
-      → Written d at (factor from at bs) d₂ r
-  unfolding factor
-  factor_then v w = written_then v w
+pub filled_both : (xs ys : List ℕ) (w : Writer) {w₁ w₂ : Writer} → w₁ ≡ filled w xs → w₂ ≡ filled w₁ ys → w₂ ≡ filled w (xs ++ ys)
+filled_both xs ys w e f = f ∙ ap (λ v. filled v ys) e ∙ filled_then w xs ys
 
 pub fill_child : (from at : ℕ) → fill from at (child ∷ []) ≡ factor from at (num 2)
 unfolding dec_lt
@@ -106,60 +103,58 @@ pub fill_parent : (from at : ℕ) → fill from at (parent ∷ []) ≡ factor fr
 unfolding dec_lt
 fill_parent from at = fill_one from at parent
 
-pub fill_then : (ys zs : List Expr) {d d₁ d₂ : List ℕ} {from at a r : ℕ} → from ≤ at → Written d at (fill from at ys) d₁ a → Written d₁ a (fill from a zs) d₂ r
-    → Written d at (fill from at (ys ++ zs)) d₂ r
-fill_then ys zs {from = from} {at = at} l v w = written_is (rw v.place (sym (fill_append from at ys zs l))) (written_then v w)
+-- no factors, and some behind others
+pub filled_by_nil : (from : ℕ) (w : Writer) → filled_by from w [] ≡ w
+filled_by_nil from w = ap (filled w) (fill_nil from w.length) ∙ filled_nil w
+
+pub filled_by_both : (from : ℕ) (w : Writer) (ys zs : List Expr) {w₁ w₂ : Writer} → from ≤ w.length → w₁ ≡ filled_by from w ys
+    → w₂ ≡ filled_by from w₁ zs → w₂ ≡ filled_by from w (ys ++ zs)
+filled_by_both from w ys zs l e f =
+    f ∙ ap (λ v. filled_by from v zs) e ∙ filled_then w (fill from w.length ys) _ ∙ ap (filled w) (sym (fill_append from w.length ys zs l))
 
 -- ------------------------------------------------------------------ a list of factors, part by part
--- Of the factors xs, owed from place at₀ on, some stand in the room; those that are left, ys, belong to place `at`, and there is room for them.
-pub record Left (d₀ : List ℕ) (from at₀ : ℕ) (xs : List Expr) (d : List ℕ) (at : ℕ) (ys : List Expr) : Type 0 where
-  pub reached : from ≤ at
-  pub fits : at + length (fill from at ys) ≤ length d
-  pub places : at + length (fill from at ys) ≡ at₀ + length (fill from at₀ xs)
-  pub bytes : put d at (fill from at ys) ≡ put d₀ at₀ (fill from at₀ xs)
+-- The writer has some factors of several; those that are left, ys, find room, and with them it is the writer z.
+pub record Left (z : Writer) (from : ℕ) (w : Writer) (ys : List Expr) : Type 0 where
+  pub reached : from ≤ w.length
+  pub fits : Takes from w ys
+  pub same : filled_by from w ys ≡ z
 
--- nothing stands there yet
-pub left_start : {d : List ℕ} {from at : ℕ} {xs : List Expr} → from ≤ at → at + length (fill from at xs) ≤ length d → Left d from at xs d at xs
-left_start l f = record { reached = l; fits = f; places = refl; bytes = refl }
+-- it has none of them yet
+pub left_start : {w : Writer} {from : ℕ} {xs : List Expr} → from ≤ w.length → Takes from w xs → Left (filled_by from w xs) from w xs
+left_start l f = record { reached = l; fits = f; same = refl }
 
-module _ {d₀ : List ℕ} {from at₀ : ℕ} {xs : List Expr} {d : List ℕ} {at : ℕ} where
-  pub left_is : {ys zs : List Expr} → ys ≡ zs → Left d₀ from at₀ xs d at ys → Left d₀ from at₀ xs d at zs
-  left_is e w = rw e at w
-
-  -- all that is left is written
-  pub left_done : {ys : List Expr} {d₁ : List ℕ} {r : ℕ} → Left d₀ from at₀ xs d at ys → Written d at (fill from at ys) d₁ r
-      → Written d₀ at₀ (fill from at₀ xs) d₁ r
-  left_done w v = record { place = v.place ∙ w.places; bytes = v.bytes ∙ w.bytes }
+module _ {z : Writer} {from : ℕ} {w : Writer} where
+  pub left_is : {ys zs : List Expr} → ys ≡ zs → Left z from w ys → Left z from w zs
+  left_is e L = rw e at L
 
   -- nothing is left
-  pub left_end : Left d₀ from at₀ xs d at [] → Written d₀ at₀ (fill from at₀ xs) d at
-  left_end w = left_done w (written_is (sym (fill_nil from at)) (written_nil d at))
+  pub left_end : Left z from w [] → w ≡ z
+  left_end L = sym (filled_by_nil from w) ∙ L.same
 
   -- the next part
-  module _ (ys zs : List Expr) (w : Left d₀ from at₀ xs d at (ys ++ zs)) where
-    parts : fill from at (ys ++ zs) ≡ fill from at ys ++ fill from (at + length (fill from at ys)) zs
-    parts = fill_append from at ys zs w.reached
+  module _ (ys zs : List Expr) (L : Left z from w (ys ++ zs)) where
+    parts : fill from w.length (ys ++ zs) ≡ fill from w.length ys ++ fill from (w.length + length (fill from w.length ys)) zs
+    parts = fill_append from w.length ys zs L.reached
 
-    lengths : at + length (fill from at ys) + length (fill from (at + length (fill from at ys)) zs) ≡ at + length (fill from at (ys ++ zs))
-    lengths = omega (arith, ap length parts, length-append (fill from at ys) (fill from (at + length (fill from at ys)) zs))
+    both : Fits w (fill from w.length ys ++ fill from (w.length + length (fill from w.length ys)) zs)
+    both = rw (← parts) L.fits
 
-    pub left_fits : at + length (fill from at ys) ≤ length d
-    left_fits = omega (arith, lengths, w.fits)
+    pub left_fits : Takes from w ys
+    left_fits = fits_first (fill from w.length ys) _ w both
 
-    pub left_step : {d₁ : List ℕ} {r : ℕ} → Written d at (fill from at ys) d₁ r → Left d₀ from at₀ xs d₁ r zs
-    left_step v =
-        let q = w.reached in
-        rw v.place (record {
+    pub left_step : {w' : Writer} → w' ≡ filled_by from w ys → Left z from w' zs
+    left_step e =
+        let q = L.reached in
+        rw e (record {
           reached = omega arith;
-          fits = omega (arith, lengths, w.fits, written_length v);
-          places = lengths ∙ w.places;
-          bytes = rw v.bytes (sym (put_append d at (fill from at ys) (fill from (at + length (fill from at ys)) zs))) ∙ ap (put d at) (sym parts) ∙ w.bytes;
+          fits = fits_rest (fill from w.length ys) _ w both refl;
+          same = filled_then w (fill from w.length ys) _ ∙ ap (filled w) (sym parts) ∙ L.same;
         })
 
   -- the next of them is a step down, one sign
-  module _ {zs : List Expr} (w : Left d₀ from at₀ xs d at (child ∷ zs)) where
-    pub child_fits : at + length (factor from at (num 2)) ≤ length d
-    child_fits = rw (← fill_child from at) (left_fits (child ∷ []) zs w)
+  module _ {zs : List Expr} (L : Left z from w (child ∷ zs)) where
+    pub child_fits : Fits w (factor from w.length (num 2))
+    child_fits = rw (← fill_child from w.length) (left_fits (child ∷ []) zs L)
 
-    pub child_step : {d₁ : List ℕ} {r : ℕ} → Written d at (factor from at (num 2)) d₁ r → Left d₀ from at₀ xs d₁ r zs
-    child_step v = left_step (child ∷ []) zs w (written_is (sym (fill_child from at)) v)
+    pub child_step : {w' : Writer} → w' ≡ filled w (factor from w.length (num 2)) → Left z from w' zs
+    child_step e = left_step (child ∷ []) zs L (e ∙ ap (filled w) (sym (fill_child from w.length)))

@@ -4,6 +4,7 @@ use Rattle.meaning.specs.Expression.{Expr, child}
 use Rattle.meaning.specs.Tree.{Forest, Tag}
 use Rattle.meaning.specs.Normal.{labelled, branch, onward, chains, either_in, off}
 use Rattle.rows.specs.Rows.{lab_of, covers, below, map_t, Rows}
+use Rattle.rows.specs.declared.TreeRows.{TreeRows}
 
 -- row u is one of some rows that are a tree
 pub record Row (code kids span : List ℕ) (u : ℕ) : Type 0 where
@@ -12,6 +13,9 @@ pub record Row (code kids span : List ℕ) (u : ℕ) : Type 0 where
   pub n : ℕ
   pub rows : Rows code mark kids span up n
   pub within : u < n
+
+abbrev pub IsRow : TreeRows → ℕ → Type 0
+IsRow t u = Row t.code t.kids t.span u
 
 -- what a row bears where s is row x and d is row y
 abbrev pub tagged : List ℕ → ℕ → ℕ → ℕ → Tag

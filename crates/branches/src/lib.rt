@@ -1,138 +1,108 @@
-// Branches and a node's own factors, written into the caller's room. Factors are joined from the left: the first of them went to place `from`, so a
-// factor that goes to a later place is followed by the sign 4.
+// Branches and a node's own factors, written behind what the writer has. Factors are joined from the left: the first of them went to place `from`, so
+// a factor that goes to a later place is followed by the sign of composition.
 #![tactic(auto)]
 
-ghost use Rattle.std.specs.Prelude.{suc, ◌+◌, ◌<◌, ◌≤◌, length, get_or, ltb};
+ghost use Rattle.std.specs.Prelude.{◌||◌, [], ◌∷◌, suc, ◌+◌, ◌<◌, ◌≤◌, ◌≡◌, length, get_or, ltb};
 ghost use Rattle.meaning.specs.Limits.{most_nodes};
 ghost use Rattle.meaning.specs.Number.{num, largest_label};
-ghost use Rattle.meaning.specs.Normal.{branch as branchOf, word_of};
-ghost use Rattle.groups.specs.Put.{Written};
-ghost use Rattle.branches.specs.Joining.{joint, factor, fill};
-ghost use Rattle.branches.specs.Factors.{Row, label_at, chain_at, off_at, own_at};
+ghost use Rattle.meaning.specs.Normal.{branch as branchOf};
+ghost use Rattle.rows.specs.Rows.{covers};
+ghost use Rattle.groups.specs.Filled.{filled};
+ghost use Rattle.branches.specs.Joining.{joint, factor, Fits, Takes, filled_by};
+ghost use Rattle.branches.specs.Factors.{IsRow, label_at, chain_at, own_at};
 
-use rows::{Codes, Links, holds};
+use groups::Writer;
+use rows::TreeRows;
+use word::sign::{CHILD, COMPOSITION, FIRST_LABEL, FIRST_PROJECTION};
 
-// The factor that went to place `at` and ends at place `end` is joined to what stands before it.
-pub fn join(room: &mut [u8], from: usize, at: usize, end: usize) -> usize
-    requires { end + length (joint (ltb from at)) ≤ length room.old }
-    ensures { Written room.old end (joint (ltb from at)) room.new result }
+// The factor that went to place `at` is joined to what stands before it.
+pub fn join(w: &mut Writer, from: usize, at: usize)
+    requires { Fits w.old (joint (ltb from at)) }
+    ensures { w.new ≡ filled w.old (joint (ltb from at)) }
 {
     if from < at {
-        return groups::put_byte(room, end, 4);
+        w.put_byte(COMPOSITION as u8);
     }
-    end
 }
 
 // A factor of one sign.
-pub fn put_sign(room: &mut [u8], from: usize, at: usize, sign: u32) -> usize
-    requires { at + length (factor from at (num sign)) ≤ length room.old }
-    ensures { Written room.old at (factor from at (num sign)) room.new result }
+pub fn put_sign(w: &mut Writer, from: usize, sign: u32)
+    requires { Fits w.old (factor from w.old.length (num sign)) }
+    ensures { w.new ≡ filled w.old (factor from w.old.length (num sign)) }
 {
-    let end = groups::put_number(room, at, sign);
-    join(room, from, at, end)
+    let at = w.length;
+    w.put_number(sign);
+    join(w, from, at);
+}
+
+// The factors that went to place `at` are put under a projection, and that is joined to what stands before it.
+pub fn project(w: &mut Writer, from: usize, at: usize, projection: u8)
+    requires { Fits w.old (projection ∷ joint (ltb from at)) }
+    ensures { w.new ≡ filled w.old (projection ∷ joint (ltb from at)) }
+{
+    w.put_byte(projection);
+    join(w, from, at);
 }
 
 // "its label, if any": code L + 1 is the sign 9 + L
-fn put_label(code: &Codes, u: usize, room: &mut [u8], from: usize, at: usize) -> usize
-    requires { (u < most_nodes) × (get_or code.now u 0 ≤ suc largest_label)
-        × (at + length (fill from at (label_at code.now u)) ≤ length room.old) }
-    ensures { Written room.old at (fill from at (label_at code.now u)) room.new result }
+fn put_label(w: &mut Writer, rows: &TreeRows, from: usize, u: usize)
+    requires { (u < most_nodes) × (get_or rows.now.code u 0 ≤ suc largest_label)
+        × Takes from w.old (label_at rows.now.code u) }
+    ensures { w.new ≡ filled_by from w.old (label_at rows.now.code u) }
 {
-    let x = code[u];
-    if x == 0 {
-        return at;
+    let x = rows.code[u];
+    if x != 0 {
+        put_sign(w, from, FIRST_LABEL + (x - 1));
     }
-    put_sign(room, from, at, 8 + x)
 }
 
 // "A branch is written as a chain", under one first projection.
 #[cycle(branch_chain)]
-fn branch(code: &Codes, kids: &Links, span: &Links, u: usize, room: &mut [u8], at: usize) -> usize
-    requires { Row code.now kids.now span.now u × (at + length (word_of (branchOf (chain_at code.now span.now u))) ≤ length room.old) }
-    ensures { Written room.old at (word_of (branchOf (chain_at code.now span.now u))) room.new result }
+fn branch(w: &mut Writer, rows: &TreeRows, from: usize, u: usize)
+    requires { IsRow rows.now u × (from ≤ w.old.length)
+        × Takes from w.old (branchOf (chain_at rows.now.code rows.now.span u) ∷ []) }
+    ensures { w.new ≡ filled_by from w.old (branchOf (chain_at rows.now.code rows.now.span u) ∷ []) }
 {
-    let end = chain(code, kids, span, u, room, at, at);
-    groups::put_byte(room, end, 5)
+    let at = w.length;
+    chain(w, rows, at, u);
+    project(w, from, at, FIRST_PROJECTION as u8);
 }
 
 // "Child, the node's label, and then, if it has exactly one child, the chain goes on with that child; if it has more, one first projection each."
 #[cycle(branch_chain)]
-fn chain(
-    code: &Codes,
-    kids: &Links,
-    span: &Links,
-    u: usize,
-    room: &mut [u8],
-    from: usize,
-    at: usize,
-) -> usize
-    requires { Row code.now kids.now span.now u × (from ≤ at)
-        × (at + length (fill from at (chain_at code.now span.now u)) ≤ length room.old) }
-    ensures { Written room.old at (fill from at (chain_at code.now span.now u)) room.new result }
+fn chain(w: &mut Writer, rows: &TreeRows, from: usize, u: usize)
+    requires { IsRow rows.now u × (from ≤ w.old.length)
+        × Takes from w.old (chain_at rows.now.code rows.now.span u) }
+    ensures { w.new ≡ filled_by from w.old (chain_at rows.now.code rows.now.span u) }
 {
-    let below = put_sign(room, from, at, 2);
-    let end = put_label(code, u, room, from, below);
-    if kids[u] == 1 {
-        return chain(code, kids, span, u + 1, room, from, end);
+    put_sign(w, from, CHILD);
+    put_label(w, rows, from, u);
+    if rows.kids[u] == 1 {
+        return chain(w, rows, from, u + 1);
     }
-    let stop = u + rows::at(span, u);
-    let mut c = u + 1;
-    let mut place = end;
-    while c < stop {
-        let past = branch(code, kids, span, c, room, place);
-        place = join(room, from, place, past);
-        c += rows::at(span, c);
+    for c in rows.children(u) {
+        branch(w, rows, from, c);
     }
-    place
 }
 
-// The first projection for row c, if it is off the ways to row x and to row y.
-fn put_off(
-    code: &Codes,
-    kids: &Links,
-    span: &Links,
-    c: usize,
-    x: usize,
-    y: usize,
-    room: &mut [u8],
-    from: usize,
-    at: usize,
-) -> usize
-    requires { Row code.now kids.now span.now c × (at + length (fill from at (off_at code.now span.now x y c)) ≤ length room.old) }
-    ensures { Written room.old at (fill from at (off_at code.now span.now x y c)) room.new result }
+// Row c is on the way to row x or to row y.
+pub fn on_way(rows: &TreeRows, c: usize, x: usize, y: usize) -> bool
+    requires { c < most_nodes }
+    ensures { result ≡ (covers rows.now.span c x || covers rows.now.span c y) }
 {
-    if holds(span, c, x) {
-        return at;
-    }
-    if holds(span, c, y) {
-        return at;
-    }
-    let end = branch(code, kids, span, c, room, at);
-    join(room, from, at, end)
+    rows.holds(c, x) || rows.holds(c, y)
 }
 
 // "A node's own factors are its label, if any, and then one first projection for each child off those ways", the ways to row x and to row y.
-pub fn own(
-    code: &Codes,
-    kids: &Links,
-    span: &Links,
-    u: usize,
-    x: usize,
-    y: usize,
-    room: &mut [u8],
-    from: usize,
-    at: usize,
-) -> usize
-    requires { Row code.now kids.now span.now u × (from ≤ at)
-        × (at + length (fill from at (own_at code.now span.now x y u)) ≤ length room.old) }
-    ensures { Written room.old at (fill from at (own_at code.now span.now x y u)) room.new result }
+pub fn own(w: &mut Writer, rows: &TreeRows, from: usize, u: usize, x: usize, y: usize)
+    requires { IsRow rows.now u × (from ≤ w.old.length)
+        × Takes from w.old (own_at rows.now.code rows.now.span x y u) }
+    ensures { w.new ≡ filled_by from w.old (own_at rows.now.code rows.now.span x y u) }
 {
-    let mut place = put_label(code, u, room, from, at);
-    let stop = u + rows::at(span, u);
-    let mut c = u + 1;
-    while c < stop {
-        place = put_off(code, kids, span, c, x, y, room, from, place);
-        c += rows::at(span, c);
+    put_label(w, rows, from, u);
+    for c in rows.children(u) {
+        if !on_way(rows, c, x, y) {
+            branch(w, rows, from, c);
+        }
     }
-    place
 }

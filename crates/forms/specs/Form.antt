@@ -12,7 +12,6 @@ use Rattle.rows.specs.declared.TreeRows.{TreeRows}
 use Rattle.rows.specs.Trees.{tree_of}
 use Rattle.rows.specs.Table.{image_tree}
 use Rattle.image.specs.Listing.{listing_of}
-use Rattle.normal.specs.Forms.{QueryRows}
 use Rattle.forms.specs.declared.Form.{Form}
 use Rattle.forms.specs.declared.Form.TheVariants.{Plain, Minimal, Normal}
 
@@ -31,10 +30,6 @@ is_folded Normal = true
 -- the tree that the form is of, with brothers in image order
 abbrev pub form_tree : Form → Option Query → Forest Tag
 form_tree form Q = image_tree (is_folded form) Q
-
--- the rows of a tree query, or no rows
-abbrev pub IsQuery : TreeRows → Type 0
-IsQuery t = QueryRows t.code t.mark t.kids t.span t.up t.len
 
 -- the bytes of a form of rows: the normal form is a word, the two others are images
 unfoldable pub bytes_of : Form → TreeRows → List ℕ

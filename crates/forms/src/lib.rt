@@ -3,11 +3,10 @@
 #![tactic(auto)]
 
 ghost use Rattle.std.specs.Prelude.{◌≡◌, length};
-ghost use Rattle.meaning.specs.Normal.{normal, word_of};
-ghost use Rattle.rows.specs.Trees.{tree_of};
 ghost use Rattle.groups.specs.Filled.{filled, Fits};
 ghost use Rattle.limits.specs.Refusal.{outcome_of};
-ghost use Rattle.forms.specs.Form.{is_folded, IsQuery, bytes_of, Fitted};
+ghost use Rattle.normal.specs.Forms.{IsQuery};
+ghost use Rattle.forms.specs.Form.{is_folded, bytes_of, Fitted};
 
 use groups::Writer;
 use limits::refusal::Refusal::RoomTooShort;
@@ -20,23 +19,6 @@ pub enum Form {
     Plain,
     Minimal,
     Normal,
-}
-
-// The normal form of the rows, written behind what the writer has.
-fn put_form(w: &mut Writer<'_>, rows: &TreeRows)
-    requires { IsQuery rows.now × Fits w.old (word_of (normal (tree_of rows.now))) }
-    ensures { w.new ≡ filled w.old (word_of (normal (tree_of rows.now))) }
-{
-    w.length = normal::form::put_form(
-        &mut *w.room,
-        w.length,
-        &rows.code,
-        &rows.mark,
-        &rows.kids,
-        &rows.span,
-        &rows.up,
-        rows.len,
-    );
 }
 
 impl Form {
@@ -58,9 +40,7 @@ impl Form {
     {
         match self {
             Form::Plain | Form::Minimal => image::image_length(rows),
-            Form::Normal => normal::weight::form_length(
-                &rows.code, &rows.mark, &rows.kids, &rows.span, &rows.up, rows.len,
-            ),
+            Form::Normal => normal::weight::form_length(rows),
         }
     }
 
@@ -72,7 +52,7 @@ impl Form {
     {
         match self {
             Form::Plain | Form::Minimal => image::put_image(w, rows),
-            Form::Normal => put_form(w, rows),
+            Form::Normal => normal::form::put_form(w, rows),
         }
     }
 }

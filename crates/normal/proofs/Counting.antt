@@ -31,10 +31,10 @@ several_width (tree b j bare) = refl
 several_width (tree b j (tree c i r)) = sym (lt-ltb 1 (suc (suc (width r))) (omega arith))
 
 -- ------------------------------------------------------------------ one row
-pub label_some : (x : ℕ) → (x ≡ 0 → ⊥) → lab_weight (lab_of x) ≡ length (num (8 + x)) + 1
+pub label_some : (x : ℕ) → (x ≡ 0 → ⊥) → lab_weight (lab_of x) ≡ length (num (9 + (x - 1))) + 1
 unfolding lab_weight
 label_some zero ne = absurd (ne refl)
-label_some (suc l) ne = let z : 8 + suc l ≡ 9 + l = omega arith in rw z (omega arith)
+label_some (suc l) ne = let z : suc l - 1 ≡ l = omega arith in rw z (omega arith)
 
 -- ------------------------------------------------------------------ the rows of a forest
 module _ (code kids span up : List ℕ) (s d : ℕ) where

@@ -9,11 +9,12 @@ use Rattle.meaning.specs.Tree.{Forest, Tag}
 use Rattle.meaning.specs.Normal.{all, factors, normal, word_of}
 use Rattle.rows.specs.Rows.{FirstRow, brothers, shape, map_t, tree_rows, Rows}
 use Rattle.rows.proofs.Rows.{rows_top}
-use Rattle.groups.specs.Put.{put, Written}
-use Rattle.groups.proofs.Put.{put_nil}
-use Rattle.branches.specs.Joining.{fill}
+use Rattle.groups.specs.declared.Writer.{Writer}
+use Rattle.groups.specs.Filled.{filled}
+use Rattle.groups.proofs.Filled.{filled_nil}
+use Rattle.branches.specs.Joining.{fill, Fits, Takes, filled_by}
 use Rattle.branches.specs.Factors.{tagged}
-use Rattle.branches.proofs.Joining.{word_some, fill_nil, fill_first, written_is}
+use Rattle.branches.proofs.Joining.{word_some, fill_nil, fill_first}
 use Rattle.ways.specs.Ways.{Lowest}
 use Rattle.normal.specs.Forms.{QueryRows, form_at}
 use Rattle.normal.proofs.Marks.{src_in_lem, tagged_rows}
@@ -60,18 +61,19 @@ module _ {code mark kids span up : List ℕ} {n : ℕ} (Q : QueryRows code mark 
         ap (λ (F : Forest Tag). word_of (normal F)) (tagged_rows Q ne fs fd)
         ∙ ap word_of (normal_rows (tagged code s d) (omega arith) ∙ ap all (factors_rows R s d t (omega (arith, L.to_s.from, src_in_lem Q ne fs)) L))
 
-    module _ (from : ℕ) where
-      pub form_fits : (m : ℕ) → from + length Word ≤ m → from + length (fill from from (form_at code span s d t)) ≤ m
-      form_fits m l = omega (arith, ap length form_word, fill_short from (form_at code span s d t))
+    module _ (w : Writer) where
+      pub form_fits : Fits w Word → Takes w.length w (form_at code span s d t)
+      form_fits l = omega (arith, ap length form_word, fill_short w.length (form_at code span s d t))
 
-      module _ {e₀ e : List ℕ} {end : ℕ} (w : Written e₀ from (fill from from (form_at code span s d t)) e end) where
-        pub form_some : (end ≡ from → ⊥) → Written e₀ from Word e end
-        form_some z = written_is (sym (form_word ∙ fill_word from (form_at code span s d t) (λ q. z (omega (arith, w.place))))) w
+      module _ {w' : Writer} (e : w' ≡ filled_by w.length w (form_at code span s d t)) where
+        pub form_some : (w'.length ≡ w.length → ⊥) → w' ≡ filled w Word
+        form_some z = e ∙ ap (filled w) (sym (form_word ∙ fill_word w.length (form_at code span s d t) (λ q. z (ap (λ x. x.length) e ∙ omega (arith, q)))))
 
-        -- "With no factor at all the word is 1.": the room is still as it was
-        pub form_none : end ≡ from → (Word ≡ 1 ∷ []) × (e ≡ e₀)
+        -- "With no factor at all the word is 1.": the writer is still as it was
+        pub form_none : w'.length ≡ w.length → (Word ≡ 1 ∷ []) × (w' ≡ w)
         form_none z =
-            let q : length (fill from from (form_at code span s d t)) ≡ 0 = omega (arith, w.place) in (
-              form_word ∙ fill_none from (form_at code span s d t) q,
-              w.bytes ∙ ap (put e₀ from) (no_bytes (fill from from (form_at code span s d t)) q) ∙ put_nil e₀ from,
+            let p : w'.length ≡ w.length + length (fill w.length w.length (form_at code span s d t)) = ap (λ x. x.length) e in
+            let q : length (fill w.length w.length (form_at code span s d t)) ≡ 0 = omega arith in (
+              form_word ∙ fill_none w.length (form_at code span s d t) q,
+              e ∙ ap (filled w) (no_bytes (fill w.length w.length (form_at code span s d t)) q) ∙ filled_nil w,
             )

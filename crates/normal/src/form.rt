@@ -1,62 +1,43 @@
-// The factors of a normal form in their order, and the form itself, written into the caller's room.
-ghost use Rattle.std.specs.Prelude.{◌+◌, ◌≤◌, length};
+// The factors of a normal form in their order, and the form itself, written behind what the writer has.
+ghost use Rattle.std.specs.Prelude.{◌≡◌, ◌+◌, ◌≤◌, length};
 ghost use Rattle.meaning.specs.Normal.{normal, word_of};
-ghost use Rattle.rows.specs.Rows.{tree_rows};
-ghost use Rattle.groups.specs.Put.{Written};
-ghost use Rattle.branches.specs.Joining.{fill};
-ghost use Rattle.ways.specs.Ways.{Covers, Climb};
-ghost use Rattle.normal.specs.Forms.{QueryRows, form_at};
+ghost use Rattle.rows.specs.Trees.{tree_of};
+ghost use Rattle.groups.specs.Filled.{filled};
+ghost use Rattle.branches.specs.Joining.{Takes, filled_by};
+ghost use Rattle.ways.specs.Ways.{Covers, IsClimb};
+ghost use Rattle.normal.specs.Forms.{IsQuery, form_at};
 
-use rows::{Codes, Links, Marks};
-use ways::{above, fall, lowest, rise};
+use crate::ends::Ends;
+use groups::Writer;
+use rows::TreeRows;
+use word::sign::{EMPTY, SELF};
 
 // "The factors, in order", joined from the left.
-fn factors(
-    code: &Codes,
-    kids: &Links,
-    span: &Links,
-    up: &Links,
-    s: usize,
-    d: usize,
-    t: usize,
-    room: &mut [u8],
-    from: usize,
-) -> usize
-    requires { Climb code.now kids.now span.now up.now t s × Covers span.now t d
-        × (from + length (fill from from (form_at code.now span.now s d t)) ≤ length room.old) }
-    ensures { Written room.old from (fill from from (form_at code.now span.now s d t)) room.new result }
+fn factors(w: &mut Writer, rows: &TreeRows, ends: &Ends)
+    requires { IsClimb rows.now ends.now.t ends.now.s × Covers rows.now.span ends.now.t ends.now.d
+        × Takes w.old.length w.old (form_at rows.now.code rows.now.span ends.now.s ends.now.d ends.now.t) }
+    ensures { w.new
+        ≡ filled_by w.old.length w.old (form_at rows.now.code rows.now.span ends.now.s ends.now.d ends.now.t) }
 {
-    let risen = rise(code, kids, span, up, s, t, room, from);
-    let met = above(code, kids, span, t, room, from, risen);
-    let end = branches::own(code, kids, span, t, s, d, room, from, met);
-    fall(code, kids, span, t, d, room, from, end)
+    let from = w.length;
+    ways::rise(w, rows, ends.s, ends.t);
+    ways::above(w, rows, from, ends.t);
+    branches::own(w, rows, from, ends.t, ends.s, ends.d);
+    ways::fall(w, rows, from, ends.t, ends.d);
 }
 
-// The normal form of n rows, written from place `at` on; no rows are empty, the word 0. "With no factor at all the word is 1."
-pub fn put_form(
-    room: &mut [u8],
-    at: usize,
-    code: &Codes,
-    mark: &Marks,
-    kids: &Links,
-    span: &Links,
-    up: &Links,
-    n: usize,
-) -> usize
-    requires { QueryRows code.now mark.now kids.now span.now up.now n
-        × (at + length (word_of (normal (tree_rows code.now mark.now span.now n))) ≤ length room.old) }
-    ensures { Written room.old at (word_of (normal (tree_rows code.now mark.now span.now n)))
-        room.new result }
+// The normal form of rows, written behind what the writer has; no rows are empty, the word 0. "With no factor at all the word is 1."
+pub fn put_form(w: &mut Writer, rows: &TreeRows)
+    requires { IsQuery rows.now
+        × (w.old.length + length (word_of (normal (tree_of rows.now))) ≤ length w.old.room.now) }
+    ensures { w.new ≡ filled w.old (word_of (normal (tree_of rows.now))) }
 {
-    if n == 0 {
-        return groups::put_byte(room, at, 0);
+    if rows.len == 0 {
+        return w.put_byte(EMPTY as u8);
     }
-    let s = rows::row_of(mark, rows::S);
-    let d = rows::row_of(mark, rows::D);
-    let t = lowest(span, up, s, d);
-    let end = factors(code, kids, span, up, s, d, t, room, at);
-    if end == at {
-        return groups::put_byte(room, at, 1);
+    let from = w.length;
+    factors(w, rows, &Ends::of(rows));
+    if w.length == from {
+        w.put_byte(SELF as u8);
     }
-    end
 }

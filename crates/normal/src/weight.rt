@@ -3,13 +3,16 @@ ghost use Rattle.std.specs.Prelude.{◌≡◌, suc, ◌<◌, ◌≤◌, length};
 ghost use Rattle.meaning.specs.Limits.{most_nodes};
 ghost use Rattle.meaning.specs.Number.{largest_label};
 ghost use Rattle.meaning.specs.Normal.{normal, word_of};
-ghost use Rattle.rows.specs.Rows.{lab_of, tree_rows};
-ghost use Rattle.ways.specs.Ways.{Climb};
-ghost use Rattle.normal.specs.Forms.{QueryRows, Unmarked};
-ghost use Rattle.normal.specs.Weights.{lab_weight, on_way, branching, row_weight, rows_weight};
+ghost use Rattle.rows.specs.Rows.{lab_of};
+ghost use Rattle.rows.specs.Trees.{tree_of};
+ghost use Rattle.ways.specs.Ways.{IsClimb};
+ghost use Rattle.normal.specs.Forms.{IsQuery, AreRows};
+ghost use Rattle.normal.specs.Weights.{lab_weight, branching, row_weight, rows_weight};
 
-use rows::{Codes, Links, Marks};
-use ways::lowest;
+use crate::ends::Ends;
+use branches::on_way;
+use rows::TreeRows;
+use word::sign::FIRST_LABEL;
 
 // A label's sign and the sign that joins it; a wildcard has none.
 fn label_weight(x: u32) -> usize
@@ -19,98 +22,63 @@ fn label_weight(x: u32) -> usize
     if x == 0 {
         return 0;
     }
-    groups::number_length(8 + x) + 1
-}
-
-// Row c is on the way to s or to d.
-fn on_way(span: &Links, s: usize, d: usize, c: usize) -> bool
-    requires { c < most_nodes }
-    ensures { result ≡ on_way span.now s d c }
-{
-    if rows::holds(span, c, s) {
-        return true;
-    }
-    rows::holds(span, c, d)
+    groups::number_length(FIRST_LABEL + (x - 1)) + 1
 }
 
 // The children of row p that are off the ways are branches of their own.
-fn branches_at(kids: &Links, span: &Links, s: usize, d: usize, p: usize) -> bool
+#[tactic(auto, unfolding(crate::specs::Weights::branching, crate::specs::Weights::on_way))]
+fn branches_at(rows: &TreeRows, ends: &Ends, p: usize) -> bool
     requires { p < most_nodes }
-    ensures { result ≡ branching kids.now span.now s d p }
+    ensures { result ≡ branching rows.now.kids rows.now.span ends.now.s ends.now.d p }
 {
-    if on_way(span, s, d, p) {
-        return true;
-    }
-    1 < kids[p]
+    on_way(rows, p, ends.s, ends.d) || 1 < rows.kids[p]
 }
 
 // What row u adds: its label, and, but for the top, its step and the projection of a branch.
-fn row_weight(
-    code: &Codes,
-    kids: &Links,
-    span: &Links,
-    up: &Links,
-    s: usize,
-    d: usize,
-    u: usize,
-) -> usize
-    requires { Climb code.now kids.now span.now up.now u u }
-    ensures { (result ≡ row_weight code.now kids.now span.now up.now s d u) × (result ≤ 7) }
+#[tactic(auto, unfolding(crate::specs::Weights::row_weight, crate::specs::Weights::on_way))]
+fn row_weight(rows: &TreeRows, ends: &Ends, u: usize) -> usize
+    requires { IsClimb rows.now u u }
+    ensures { (result ≡ row_weight rows.now.code rows.now.kids rows.now.span rows.now.up ends.now.s ends.now.d u)
+        × (result ≤ 7) }
 {
-    let own = label_weight(code[u]);
+    let own = label_weight(rows.code[u]);
     if u == 0 {
         return own;
     }
-    if on_way(span, s, d, u) {
+    if on_way(rows, u, ends.s, ends.d) {
         return own + 2;
     }
-    if branches_at(kids, span, s, d, rows::at(up, u)) {
+    if branches_at(rows, ends, rows::at(&rows.up, u)) {
         return own + 3;
     }
     own + 2
 }
 
 // What all rows add.
-fn rows_weight(
-    code: &Codes,
-    kids: &Links,
-    span: &Links,
-    up: &Links,
-    s: usize,
-    d: usize,
-    n: usize,
-) -> usize
-    requires { Unmarked code.now kids.now span.now up.now n }
-    ensures { result ≡ rows_weight code.now kids.now span.now up.now s d n 0 }
+fn rows_weight(rows: &TreeRows, ends: &Ends) -> usize
+    requires { AreRows rows.now }
+    ensures { result
+        ≡ rows_weight rows.now.code rows.now.kids rows.now.span rows.now.up ends.now.s ends.now.d rows.now.len 0 }
 {
     let mut weight: usize = 0;
-    for u in 0..n {
-        weight += row_weight(code, kids, span, up, s, d, u);
+    for u in 0..rows.len {
+        weight += row_weight(rows, ends, u);
     }
     weight
 }
 
 // The length of the normal form, counted row by row. The first factor is joined to nothing, which takes one sign away; if t is not the top, there is
 // one second projection, which puts it back.
-pub fn form_length(
-    code: &Codes,
-    mark: &Marks,
-    kids: &Links,
-    span: &Links,
-    up: &Links,
-    n: usize,
-) -> usize
-    requires { QueryRows code.now mark.now kids.now span.now up.now n }
-    ensures { result ≡ length (word_of (normal (tree_rows code.now mark.now span.now n))) }
+pub fn form_length(rows: &TreeRows) -> usize
+    requires { IsQuery rows.now }
+    ensures { result ≡ length (word_of (normal (tree_of rows.now))) }
 {
-    if n == 0 {
+    if rows.len == 0 {
         return 1;
     }
-    let s = rows::row_of(mark, rows::S);
-    let d = rows::row_of(mark, rows::D);
-    let t = lowest(span, up, s, d);
-    let weight = rows_weight(code, kids, span, up, s, d, n);
-    if t != 0 {
+    let ends = Ends::of(rows);
+    let weight = rows_weight(rows, &ends);
+    if ends.t != 0 {
         return weight;
     }
     if weight == 0 {

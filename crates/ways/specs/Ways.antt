@@ -5,6 +5,7 @@ use Rattle.meaning.specs.Expression.{Expr, child}
 use Rattle.meaning.specs.Tree.{Forest, bare, tree, Tag}
 use Rattle.meaning.specs.Normal.{labelled, dst_in, off, ups, downs}
 use Rattle.rows.specs.Rows.{shape, Holds, Rows}
+use Rattle.rows.specs.declared.TreeRows.{TreeRows}
 use Rattle.branches.specs.Factors.{under, own_at}
 
 -- row x lies at or below row u
@@ -36,6 +37,9 @@ pub record Climb (code kids span up : List ℕ) (u x : ℕ) : Type 0 where
   pub rows : Rows code mark kids span up n
   pub within : x < n
   pub covers : Covers span u x
+
+abbrev pub IsClimb : TreeRows → ℕ → ℕ → Type 0
+IsClimb t u x = Climb t.code t.kids t.span t.up u x
 
 -- row c is the first row of one of the trees
 abbrev pub Among : ℕ → Forest ℕ → Type 0

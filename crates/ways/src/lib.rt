@@ -1,39 +1,38 @@
-// The ways of a normal form over rows in image order, written into the caller's room: up from s to t, the way above t, down to d.
+// The ways of a normal form over rows in image order, written behind what the writer has: up from s to t, the way above t, down to d.
 // The first factor of all goes to place `from` of the room, so a factor that goes to a later place is joined to what stands before it.
 #![tactic(auto)]
 
-ghost use Rattle.std.specs.Prelude.{[], ◌+◌, ◌<◌, ◌≤◌, length};
+ghost use Rattle.std.specs.Prelude.{[], ◌≡◌, ◌<◌, ◌≤◌};
 ghost use Rattle.meaning.specs.Normal.{above_factor};
 ghost use Rattle.rows.specs.Rows.{below};
-ghost use Rattle.groups.specs.Put.{Written};
-ghost use Rattle.branches.specs.Joining.{fill};
-ghost use Rattle.branches.specs.Factors.{Row};
-ghost use Rattle.ways.specs.Ways.{Covers, Part, Pair, Climb, Lowest, Among, ups_at, downs_at, way_at};
+ghost use Rattle.branches.specs.Joining.{Takes, filled_by};
+ghost use Rattle.branches.specs.Factors.{IsRow};
+ghost use Rattle.ways.specs.Ways.{Covers, Part, Pair, IsClimb, Lowest, Among, ups_at, downs_at, way_at};
 
-use rows::{Codes, Links};
+use groups::Writer;
+use rows::TreeRows;
+use word::sign::{CHILD, PARENT, SECOND_PROJECTION};
 
 // "Let t be the lowest node above or at both s and d": up from s to the first row that holds d.
-pub fn lowest(span: &Links, up: &Links, s: usize, d: usize) -> usize
-    requires { Pair span.now up.now s d }
-    ensures { Lowest span.now s d result }
+pub fn lowest(rows: &TreeRows, s: usize, d: usize) -> usize
+    requires { Pair rows.now.span rows.now.up s d }
+    ensures { Lowest rows.now.span s d result }
 {
     let mut t = s;
-    loop {
-        if rows::holds(span, t, d) {
-            return t;
-        }
-        t = rows::at(up, t);
+    while !rows.holds(t, d) {
+        t = rows::at(&rows.up, t);
     }
+    t
 }
 
 // The child of row u at or below which row x lies.
-fn child_to(span: &Links, u: usize, x: usize) -> usize
-    requires { Part span.now u × (u < x) × Covers span.now u x }
-    ensures { Among result (below span.now u) × Covers span.now result x }
+fn child_to(rows: &TreeRows, u: usize, x: usize) -> usize
+    requires { Part rows.now.span u × (u < x) × Covers rows.now.span u x }
+    ensures { Among result (below rows.now.span u) × Covers rows.now.span result x }
 {
     let mut c = u + 1;
     loop {
-        let next = c + rows::at(span, c);
+        let next = c + rows::at(&rows.span, c);
         if x < next {
             return c;
         }
@@ -41,90 +40,65 @@ fn child_to(span: &Links, u: usize, x: usize) -> usize
     }
 }
 
-// "For each node from s up to just below t, its own factors and then parent."
-pub fn rise(
-    code: &Codes,
-    kids: &Links,
-    span: &Links,
-    up: &Links,
-    s: usize,
-    t: usize,
-    room: &mut [u8],
-    from: usize,
-) -> usize
-    requires { Climb code.now kids.now span.now up.now t s
-        × (from + length (fill from from (ups_at code.now span.now s t)) ≤ length room.old) }
-    ensures { Written room.old from (fill from from (ups_at code.now span.now s t)) room.new result }
+// "For each node from s up to just below t, its own factors and then parent." These are the first factors of all.
+pub fn rise(w: &mut Writer, rows: &TreeRows, s: usize, t: usize)
+    requires { IsClimb rows.now t s
+        × Takes w.old.length w.old (ups_at rows.now.code rows.now.span s t) }
+    ensures { w.new
+        ≡ filled_by w.old.length w.old (ups_at rows.now.code rows.now.span s t) }
 {
+    let from = w.length;
     let mut x = s;
-    let mut at = from;
     while x != t {
-        let end = branches::own(code, kids, span, x, s, s, room, from, at);
-        at = branches::put_sign(room, from, end, 3);
-        x = rows::at(up, x);
+        branches::own(w, rows, from, x, s, s);
+        branches::put_sign(w, from, PARENT);
+        x = rows::at(&rows.up, x);
     }
-    at
 }
 
-// "The way from the top down to t (own factors of each node above t, each followed by child)."
-fn way(code: &Codes, kids: &Links, span: &Links, t: usize, room: &mut [u8], from: usize) -> usize
-    requires { Row code.now kids.now span.now t × (from + length (fill from from (way_at code.now span.now t 0)) ≤ length room.old) }
-    ensures { Written room.old from (fill from from (way_at code.now span.now t 0)) room.new result }
+// "The way from the top down to t (own factors of each node above t, each followed by child)", a chain of factors of its own.
+fn way(w: &mut Writer, rows: &TreeRows, t: usize)
+    requires { IsRow rows.now t
+        × Takes w.old.length w.old (way_at rows.now.code rows.now.span t 0) }
+    ensures { w.new
+        ≡ filled_by w.old.length w.old (way_at rows.now.code rows.now.span t 0) }
 {
+    let from = w.length;
     let mut x: usize = 0;
-    let mut at = from;
     while x != t {
-        let c = child_to(span, x, t);
-        let end = branches::own(code, kids, span, x, t, t, room, from, at);
-        at = branches::put_sign(room, from, end, 2);
+        let c = child_to(rows, x, t);
+        branches::own(w, rows, from, x, t, t);
+        branches::put_sign(w, from, CHILD);
         x = c;
     }
-    at
 }
 
 // "If t is not the top, one second projection" of that way.
-pub fn above(
-    code: &Codes,
-    kids: &Links,
-    span: &Links,
-    t: usize,
-    room: &mut [u8],
-    from: usize,
-    at: usize,
-) -> usize
-    requires { Row code.now kids.now span.now t
-        × (at + length (fill from at (above_factor (way_at code.now span.now t 0) [])) ≤ length room.old) }
-    ensures { Written room.old at (fill from at (above_factor (way_at code.now span.now t 0) [])) room.new result }
+pub fn above(w: &mut Writer, rows: &TreeRows, from: usize, t: usize)
+    requires { IsRow rows.now t
+        × Takes from w.old (above_factor (way_at rows.now.code rows.now.span t 0) []) }
+    ensures { w.new
+        ≡ filled_by from w.old (above_factor (way_at rows.now.code rows.now.span t 0) []) }
 {
     if t == 0 {
-        return at;
+        return;
     }
-    let end = way(code, kids, span, t, room, at);
-    let projected = groups::put_byte(room, end, 6);
-    branches::join(room, from, at, projected)
+    let at = w.length;
+    way(w, rows, t);
+    branches::project(w, from, at, SECOND_PROJECTION as u8);
 }
 
 // "For each node below t down to d, child and its own factors."
-pub fn fall(
-    code: &Codes,
-    kids: &Links,
-    span: &Links,
-    t: usize,
-    d: usize,
-    room: &mut [u8],
-    from: usize,
-    at: usize,
-) -> usize
-    requires { Row code.now kids.now span.now t × Covers span.now t d × (from ≤ at)
-        × (at + length (fill from at (downs_at code.now span.now d t)) ≤ length room.old) }
-    ensures { Written room.old at (fill from at (downs_at code.now span.now d t)) room.new result }
+pub fn fall(w: &mut Writer, rows: &TreeRows, from: usize, t: usize, d: usize)
+    requires { IsRow rows.now t × Covers rows.now.span t d × (from ≤ w.old.length)
+        × Takes from w.old (downs_at rows.now.code rows.now.span d t) }
+    ensures { w.new
+        ≡ filled_by from w.old (downs_at rows.now.code rows.now.span d t) }
 {
     let mut x = t;
-    let mut place = at;
     while x != d {
-        x = child_to(span, x, d);
-        let end = branches::put_sign(room, from, place, 2);
-        place = branches::own(code, kids, span, x, d, d, room, from, end);
+        x = child_to(rows, x, d);
+        branches::put_sign(w, from, CHILD);
+        branches::own(w, rows, from, x, d, d);
     }
-    place
 }

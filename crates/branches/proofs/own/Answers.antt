@@ -1,35 +1,39 @@
-use native.Mathlib.Omega.{arith}
-use Rattle.branches.proofs.Joining.{left_start, left_done, left_fits, left_step}
-use Rattle.branches.proofs.Chains.{row_few, off_start, off_opens, off_fits, off_next, off_end, own_start}
+use Rattle.std.proofs.Common.{sym, ◌∙◌}
+use Rattle.branches.proofs.Joining.{filled_by_nil}
+use Rattle.branches.proofs.Chains.{row_few, row_reaches, off_start, off_row, off_fits, off_next, off_end, own_fits, own_done, off_branch, off_way}
 use Rattle.branches.proofs.own.Goals as goal
 
-pub put_label-place-requires : goal.put_label-place-requires
-put_label-place-requires c =
-    let (R, le, f) = c.requires in
-    (row_few R, R.rows.labels c.args.u R.within, left_fits _ _ (own_start _ _ _ _ _ c.args.room.now le f))
+pub put_label-requires : goal.put_label-requires
+put_label-requires c =
+    let (R, le, f) = c.requires in (row_few R, R.rows.labels c.args.u R.within, own_fits _ _ c.args.x c.args.y _ _ c.args.w.now le f)
+
+pub children-c-items-requires : goal.children-c-items-requires
+children-c-items-requires c = row_reaches c.requires.0
 
 pub loop-c-init : goal.loop-c-init
 loop-c-init c =
     let (R, le, f) = c.requires in
-    let L = left_step _ _ (own_start _ _ _ _ _ _ le f) c.put_label-place.ensures in
-    rw c.at.ensures.0 (off_start R (left_start L.reached L.fits))
+    rw c.into_iter-c-iterator.ensures.into_iter_gives (off_start R c.children-c-items.ensures (own_done _ _ _ _ _ _ c.args.w.now le f c.put_label.ensures))
 
-pub put_off-place-requires : goal.put_off-place-requires
-put_off-place-requires c = let l = c.loop-c in (l.invariant.row l.c c.loop-c-test.true, off_fits l.invariant c.loop-c-test.true)
+pub on_way-requires : goal.on_way-requires
+on_way-requires c = row_few (off_row c.next.new.self _ c.loop-c.invariant c.in-Some.ensures.steps)
 
-pub at-c-requires : goal.at-c-requires
-at-c-requires c = (omega arith, row_few (c.loop-c.invariant.row _ c.loop-c-test.true))
+pub branch-w-requires : goal.branch-w-requires
+branch-w-requires c =
+    let O = c.loop-c.invariant in
+    let g = c.in-Some.ensures.steps in
+    let k = off_branch c.args.rows.now.code c.args.rows.now.span c.args.x c.args.y c.in-Some.c (sym c.on_way.ensures ∙ c.if-not-on_way.true) in
+    (off_row c.next.new.self _ O g, O.off.left.reached, rw k at (off_fits c.next.new.self _ O g))
 
-pub overflow_add-c-in-loop-c : goal.overflow_add-c-in-loop-c
-overflow_add-c-in-loop-c c = omega (arith, row_few (c.loop-c.invariant.row _ c.loop-c-test.true), c.at-c.ensures.1)
-
-pub loop-c-smaller : goal.loop-c-smaller
-loop-c-smaller c = omega (arith, (off_opens c.loop-c.invariant c.loop-c-test.true).some, c.at-c.ensures.0, c.loop-c-test.true)
+pub loop-c-preserved-then-not-on_way : goal.loop-c-preserved-then-not-on_way
+loop-c-preserved-then-not-on_way c =
+    let k = off_branch c.args.rows.now.code c.args.rows.now.span c.args.x c.args.y c.in-Some.c (sym c.on_way.ensures ∙ c.if-not-on_way.true) in
+    off_next c.next.new.self _ c.loop-c.invariant c.in-Some.ensures.steps (rw k c.branch-w.ensures)
 
 pub loop-c-preserved : goal.loop-c-preserved
-loop-c-preserved c = rw c.at-c.ensures.0 (off_next c.loop-c.invariant c.loop-c-test.true c.put_off-place.ensures)
+loop-c-preserved c =
+    let k = off_way c.args.rows.now.code c.args.rows.now.span c.args.x c.args.y c.in-Some.c (sym c.on_way.ensures ∙ c.if-not-on_way.false) in
+    off_next c.next.new.self _ c.loop-c.invariant c.in-Some.ensures.steps (rw k (sym (filled_by_nil c.args.from c.loop-c.w)))
 
 pub returns : goal.returns
-returns c =
-    let (R, le, f) = c.requires in
-    left_done (left_step _ _ (own_start _ _ _ _ _ _ le f) c.put_label-place.ensures) (off_end c.loop-c.invariant c.loop-c-test.false)
+returns c = off_end c.loop-c.invariant c.in-None.ensures.steps.0

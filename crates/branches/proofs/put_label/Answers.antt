@@ -1,19 +1,19 @@
 -- A wildcard writes nothing; code L + 1 is the sign 9 + L.
-use mathlib.Core.Path.{sym, ap, refl}
-use native.Mathlib.Omega.{arith}
-use lib.ListN.{length}
+use Rattle.std.proofs.Common.{sym, ap, ◌∙◌, length, arith}
+use Rattle.groups.specs.Filled.{filled}
 use Rattle.branches.specs.Factors.{label_at}
-use Rattle.branches.proofs.Joining.{fill_nil, written_nil, written_is}
+use Rattle.branches.proofs.Joining.{filled_by_nil}
 use Rattle.branches.proofs.Chains.{label_some}
 use Rattle.branches.proofs.put_label.Goals as goal
 
-pub returns-then-x-eq0 : goal.returns-then-x-eq0
-returns-then-x-eq0 c = unfold label_at in rw (c.if-x-eq0.true, fill_nil) (written_nil _ _)
-
 pub put_sign-requires : goal.put_sign-requires
-put_sign-requires c =
-    let e = label_some c.args.code.now c.args.u c.args.from c.args.at _ refl c.if-x-eq0.false in
-    omega (arith, ap length e, c.requires.2)
+unfolding label_at
+put_sign-requires c = omega (arith, ap length (label_some c.args.from c.args.w.now.length _ c.if-x-ne0.true), c.requires.2)
 
-pub returns : goal.returns
-returns c = written_is (sym (label_some _ _ _ _ _ refl c.if-x-eq0.false)) c.put_sign.ensures
+pub returns-then-x-ne0 : goal.returns-then-x-ne0
+unfolding label_at
+returns-then-x-ne0 c = c.put_sign.ensures ∙ ap (filled c.args.w.now) (sym (label_some _ _ _ c.if-x-ne0.true))
+
+pub returns-else-x-ne0 : goal.returns-else-x-ne0
+unfolding label_at
+returns-else-x-ne0 c = rw c.if-x-ne0.false (sym (filled_by_nil c.args.from c.args.w.now))

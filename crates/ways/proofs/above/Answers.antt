@@ -1,25 +1,22 @@
--- t is the top and nothing is written; or the way, the sign 6, and what joins it.
-use mathlib.Core.Path.{sym}
-use native.Mathlib.Omega.{arith}
-use Rattle.branches.proofs.Joining.{written_nil, written_is}
-use Rattle.ways.proofs.Writing.{above_none, way_fits, six_fits, above_joint, above_done}
+-- t is the top and nothing is written; or the way, and its projection.
+use Rattle.std.proofs.Common.{ap, sym, ◌∙◌, arith}
+use Rattle.groups.specs.Filled.{filled}
+use Rattle.branches.proofs.Joining.{filled_by_nil, fits_first, fits_rest, filled_both}
+use Rattle.ways.proofs.Writing.{above_none, above_parts}
 use Rattle.ways.proofs.above.Goals as goal
 
 pub returns-then-t-eq0 : goal.returns-then-t-eq0
-returns-then-t-eq0 c = written_is (sym (above_none _ _ _ _ c.args.t (omega (arith, c.if-t-eq0.true)))) (written_nil _ _)
+returns-then-t-eq0 c =
+    rw (above_none c.args.rows.now.code c.args.rows.now.span c.args.t (omega (arith, c.if-t-eq0.true))) (sym (filled_by_nil c.args.from c.args.w.now))
 
-pub way-end-requires : goal.way-end-requires
-way-end-requires c = (c.requires.0, way_fits _ _ _ _ _ c.if-t-eq0.false c.args.room.now c.requires.1)
+pub way-requires : goal.way-requires
+way-requires c =
+    (c.requires.0, fits_first _ _ c.args.w.now (rw (above_parts _ _ c.args.from c.args.w.now.length c.args.t c.if-t-eq0.false) at c.requires.1))
 
-pub put_byte-projected-requires : goal.put_byte-projected-requires
-put_byte-projected-requires c = six_fits _ _ _ _ _ c.if-t-eq0.false c.args.room.now c.requires.1 c.way-end.ensures
-
-pub join-requires : goal.join-requires
-join-requires c =
-    above_joint c.args.code.now c.args.span.now c.args.from c.args.at _ c.if-t-eq0.false _ c.requires.1 c.way-end.ensures
-    (record { place = c.put_byte-projected.ensures.place; bytes = c.put_byte-projected.ensures.bytes })
+pub project-requires : goal.project-requires
+project-requires c =
+    fits_rest _ _ c.args.w.now (rw (above_parts _ _ c.args.from c.args.w.now.length c.args.t c.if-t-eq0.false) at c.requires.1) c.way.ensures
 
 pub returns : goal.returns
 returns c =
-    above_done _ _ _ _ _ c.if-t-eq0.false _ c.way-end.ensures
-    (record { place = c.put_byte-projected.ensures.place; bytes = c.put_byte-projected.ensures.bytes }) c.join.ensures
+    filled_both _ _ c.args.w.now c.way.ensures c.project.ensures ∙ ap (filled c.args.w.now) (sym (above_parts _ _ c.args.from _ c.args.t c.if-t-eq0.false))

@@ -5,7 +5,7 @@ use Rattle.ways.proofs.Steps.{Children}
 use Rattle.ways.proofs.child_to.Given as goal
 
 abbrev pub invariant-loop-u : goal.invariant-loop-u
-invariant-loop-u l = Children l.span l.u l.x l.c
+invariant-loop-u l = Children l.rows.span l.u l.x l.c
 
 abbrev pub decreases-loop-u : goal.decreases-loop-u
-decreases-loop-u l = l.u + get_or l.span l.u 0 - l.c
+decreases-loop-u l = l.u + get_or l.rows.span l.u 0 - l.c

@@ -1,5 +1,5 @@
 use native.Mathlib.Omega.{arith}
-use Rattle.branches.proofs.Joining.{written_reached, left_start, left_is, left_end, child_fits}
+use Rattle.branches.proofs.Joining.{left_start, left_is, left_end, left_fits, child_fits}
 use Rattle.ways.proofs.Writing.{row_part, child_row, child_behind, down_start, down_own, down_done, downs_nil}
 use Rattle.ways.proofs.fall.Goals as goal
 
@@ -9,17 +9,18 @@ loop-x-init c = let (R, v, le, f) = c.requires in (R, v, left_start le f)
 pub child_to-x-requires : goal.child_to-x-requires
 child_to-x-requires c = let (R, v, L) = c.loop-x.invariant in (row_part R, omega (arith, v.from, c.loop-x-test.true), v)
 
-pub put_sign-end-requires : goal.put_sign-end-requires
-put_sign-end-requires c =
+pub put_sign-requires : goal.put_sign-requires
+put_sign-requires c =
     let (R, v, L) = c.loop-x.invariant in
     let (a, w) = c.child_to-x.ensures in
     child_fits (down_start R a w v L)
 
-pub own-place-requires : goal.own-place-requires
-own-place-requires c =
+pub own-requires : goal.own-requires
+own-requires c =
     let (R, v, L) = c.loop-x.invariant in
     let (a, w) = c.child_to-x.ensures in
-    (child_row R a w v, written_reached L.reached c.put_sign-end.ensures, down_own R a w v L c.put_sign-end.ensures)
+    let M = down_own R a w v L c.put_sign.ensures in
+    (child_row R a w v, M.reached, left_fits _ _ M)
 
 pub loop-x-smaller : goal.loop-x-smaller
 loop-x-smaller c = let (R, v, L) = c.loop-x.invariant in let (a, w) = c.child_to-x.ensures in omega (arith, child_behind R a w v, w.from)
@@ -28,7 +29,7 @@ pub loop-x-preserved : goal.loop-x-preserved
 loop-x-preserved c =
     let (R, v, L) = c.loop-x.invariant in
     let (a, w) = c.child_to-x.ensures in
-    (child_row R a w v, w, down_done R a w v L c.put_sign-end.ensures c.own-place.ensures)
+    (child_row R a w v, w, down_done R a w v L c.put_sign.ensures c.own.ensures)
 
 pub returns : goal.returns
 returns c = let (R, v, L) = c.loop-x.invariant in left_end (left_is (downs_nil R c.loop-x-test.false) L)

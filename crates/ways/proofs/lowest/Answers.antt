@@ -1,19 +1,18 @@
-use mathlib.Core.Path.{sym, ◌∙◌}
-use native.Mathlib.Omega.{arith}
+use Rattle.std.proofs.Common.{sym, ◌∙◌, arith}
 use Rattle.ways.proofs.Steps.{lowest_start, lowest_done, lowest_less, lowest_next}
 use Rattle.ways.proofs.lowest.Goals as goal
 
-pub loop-s-init : goal.loop-s-init
-loop-s-init c = lowest_start c.requires
+pub loop-t-init : goal.loop-t-init
+loop-t-init c = lowest_start c.requires
 
 pub holds-requires : goal.holds-requires
-holds-requires c = c.loop-s.invariant.few
+holds-requires c = c.loop-t.invariant.few
 
-pub returns-then-holds : goal.returns-then-holds
-returns-then-holds c = lowest_done c.requires c.loop-s.invariant (sym c.holds.ensures ∙ c.if-holds.true)
+pub loop-t-smaller : goal.loop-t-smaller
+loop-t-smaller c = omega (arith, c.at-t.ensures.0, lowest_less c.requires c.loop-t.invariant (sym c.holds.ensures ∙ c.loop-t-test.true))
 
-pub loop-s-smaller : goal.loop-s-smaller
-loop-s-smaller c = omega (arith, c.at-t.ensures.0, lowest_less c.requires c.loop-s.invariant (sym c.holds.ensures ∙ c.if-holds.false))
+pub loop-t-preserved : goal.loop-t-preserved
+loop-t-preserved c = rw c.at-t.ensures.0 (lowest_next c.requires c.loop-t.invariant (sym c.holds.ensures ∙ c.loop-t-test.true))
 
-pub loop-s-preserved : goal.loop-s-preserved
-loop-s-preserved c = rw c.at-t.ensures.0 (lowest_next c.requires c.loop-s.invariant (sym c.holds.ensures ∙ c.if-holds.false))
+pub returns : goal.returns
+returns c = lowest_done c.requires c.loop-t.invariant (sym c.holds.ensures ∙ c.loop-t-test.false)

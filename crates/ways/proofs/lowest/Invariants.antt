@@ -2,8 +2,8 @@
 use Rattle.ways.proofs.Steps.{Above-s}
 use Rattle.ways.proofs.lowest.Given as goal
 
-abbrev pub invariant-loop-s : goal.invariant-loop-s
-invariant-loop-s l = Above-s l.span l.s l.d l.t
+abbrev pub invariant-loop-t : goal.invariant-loop-t
+invariant-loop-t l = Above-s l.rows.span l.s l.d l.t
 
-abbrev pub decreases-loop-s : goal.decreases-loop-s
-decreases-loop-s l = l.t
+abbrev pub decreases-loop-t : goal.decreases-loop-t
+decreases-loop-t l = l.t

@@ -1,22 +1,21 @@
 use native.Mathlib.Omega.{arith}
-use Rattle.branches.proofs.Joining.{written_reached}
 use Rattle.ways.proofs.Writing.{climb_row, rise_start, rise_less, rise_covers, rise_from, rise_own, rise_parent, rise_next}
 use Rattle.ways.proofs.rise.Goals as goal
 
 pub loop-x-init : goal.loop-x-init
-loop-x-init c = rise_start c.requires.0 _ _
+loop-x-init c = rise_start c.requires.0 c.args.w.now
 
-pub own-end-requires : goal.own-end-requires
-own-end-requires c =
+pub own-requires : goal.own-requires
+own-requires c =
     let (tx, v, w) = c.loop-x.invariant in
     let (C, f) = c.requires in
-    (climb_row C c.loop-x.x v, written_reached (omega arith) w, rise_own C c.loop-x.x tx v c.loop-x-test.true w f)
+    (climb_row C c.loop-x.x v, rw w (omega arith), rise_own C c.loop-x.x tx v c.loop-x-test.true c.args.w.now w f)
 
-pub put_sign-at-requires : goal.put_sign-at-requires
-put_sign-at-requires c =
+pub put_sign-requires : goal.put_sign-requires
+put_sign-requires c =
     let (tx, v, w) = c.loop-x.invariant in
     let (C, f) = c.requires in
-    rise_parent C c.loop-x.x tx v c.loop-x-test.true w c.own-end.ensures f
+    rise_parent C c.loop-x.x tx v c.loop-x-test.true c.args.w.now w f c.own.ensures
 
 pub loop-x-smaller : goal.loop-x-smaller
 loop-x-smaller c =
@@ -31,7 +30,7 @@ loop-x-preserved c =
     rw c.at-x.ensures.0 (
       rise_from C c.loop-x.x tx v ne,
       rise_covers C c.loop-x.x tx v ne,
-      rise_next C c.loop-x.x tx v ne w c.own-end.ensures c.put_sign-at.ensures,
+      rise_next C c.loop-x.x tx v ne c.args.w.now w c.own.ensures c.put_sign.ensures,
     )
 
 pub returns : goal.returns

@@ -1,6 +1,6 @@
 use native.Mathlib.Omega.{arith}
-use Rattle.branches.proofs.Joining.{left_start, left_is, left_end, child_fits, child_step}
-use Rattle.ways.proofs.Writing.{row_part, child_row, child_behind, way_own, way_done, top_row, top_covers, way_nil}
+use Rattle.branches.proofs.Joining.{left_start, left_is, left_end, left_fits, left_step, child_fits, child_step}
+use Rattle.ways.proofs.Writing.{row_part, child_row, child_behind, way_start, top_row, top_covers, way_nil}
 use Rattle.ways.proofs.way.Goals as goal
 
 pub loop-x-init : goal.loop-x-init
@@ -9,17 +9,17 @@ loop-x-init c = let (R, f) = c.requires in (top_row R, top_covers R, left_start 
 pub child_to-c-requires : goal.child_to-c-requires
 child_to-c-requires c = let (R, v, L) = c.loop-x.invariant in (row_part R, omega (arith, v.from, c.loop-x-test.true), v)
 
-pub own-end-requires : goal.own-end-requires
-own-end-requires c =
+pub own-requires : goal.own-requires
+own-requires c =
     let (R, v, L) = c.loop-x.invariant in
     let (a, w) = c.child_to-c.ensures in
-    (R, L.reached, way_own R a w v c.loop-x-test.true L)
+    (R, L.reached, left_fits _ _ (way_start R a w v c.loop-x-test.true L))
 
-pub put_sign-at-requires : goal.put_sign-at-requires
-put_sign-at-requires c =
+pub put_sign-requires : goal.put_sign-requires
+put_sign-requires c =
     let (R, v, L) = c.loop-x.invariant in
     let (a, w) = c.child_to-c.ensures in
-    child_fits (way_done R a w v c.loop-x-test.true L c.own-end.ensures)
+    child_fits (left_step _ _ (way_start R a w v c.loop-x-test.true L) c.own.ensures)
 
 pub loop-x-smaller : goal.loop-x-smaller
 loop-x-smaller c = let (R, v, L) = c.loop-x.invariant in let (a, w) = c.child_to-c.ensures in omega (arith, child_behind R a w v, w.from)
@@ -28,7 +28,7 @@ pub loop-x-preserved : goal.loop-x-preserved
 loop-x-preserved c =
     let (R, v, L) = c.loop-x.invariant in
     let (a, w) = c.child_to-c.ensures in
-    (child_row R a w v, w, child_step (way_done R a w v c.loop-x-test.true L c.own-end.ensures) c.put_sign-at.ensures)
+    (child_row R a w v, w, child_step (left_step _ _ (way_start R a w v c.loop-x-test.true L) c.own.ensures) c.put_sign.ensures)
 
 pub returns : goal.returns
 returns c = let (R, v, L) = c.loop-x.invariant in left_end (left_is (way_nil R c.loop-x-test.false) L)

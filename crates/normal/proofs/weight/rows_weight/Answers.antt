@@ -7,7 +7,7 @@ use Rattle.normal.proofs.weight.rows_weight.Goals as goal
 
 pub loop-u-init : goal.loop-u-init
 loop-u-init c =
-    let n = c.args.n in
+    let n = c.args.rows.now.len in
     let z : n - 0 ≡ n = omega arith in
     (omega arith, omega arith, rw z (omega arith))
 
@@ -24,11 +24,11 @@ loop-u-preserved c =
     let (le, w, e) = l.invariant in
     let (r, m) = c.row_weight-weight.ensures in
     let t = c.loop-u-test.true in
-    (omega arith, omega arith, omega (arith, rows_next a.code.now a.kids.now a.span.now a.up.now a.s a.d a.n l.u t))
+    (omega arith, omega arith, omega (arith, rows_next a.rows.now.code a.rows.now.kids a.rows.now.span a.rows.now.up a.ends.now.s a.ends.now.d a.rows.now.len l.u t))
 
 pub returns : goal.returns
 returns c =
     let a = c.args in
     let l = c.loop-u in
     let (le, w, e) = l.invariant in
-    omega (arith, rows_none a.code.now a.kids.now a.span.now a.up.now a.s a.d a.n l.u c.loop-u-test.false)
+    omega (arith, rows_none a.rows.now.code a.rows.now.kids a.rows.now.span a.rows.now.up a.ends.now.s a.ends.now.d a.rows.now.len l.u c.loop-u-test.false)
