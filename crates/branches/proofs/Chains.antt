@@ -22,7 +22,7 @@ use Rattle.groups.specs.declared.Writer.{Writer}
 use Rattle.groups.specs.Filled.{filled}
 use Rattle.branches.specs.Joining.{joint, fill, factor, Takes, filled_by}
 use Rattle.branches.specs.Factors.{Row, IsRow, tagged, under, label_at, onward_at, chain_at, off_at, branches_at, own_at}
-use Rattle.branches.proofs.Joining.{fill_one, fill_first, Left, left_start, left_is, left_end, left_fits, left_step, child_step}
+use Rattle.branches.proofs.Joining.{fill_one, fill_first, filled_by_nil, Left, left_start, left_is, left_end, left_fits, left_step, child_step}
 use Rattle.branches.proofs.Covers.{either_covers, covers_before}
 
 pub labelled_append : (l : Lab) (xs : List Expr) → labelled l xs ≡ labelled l [] ++ xs
@@ -117,19 +117,34 @@ module _ {t : TreeRows} {x y : ℕ} {z : Writer} {from : ℕ} {w : Writer} where
             let v = holds_first t.span b.next b.end i k r h in
             rw (n, e, q, O.of) (r, v.1, v.2, left_is (off_first t.code t.span x y b.next b.end i k r h) L)
 
-    pub off_row : IsRow t c
-    off_row = let (q, l, s, n, e) = g in O.off.row c (omega arith)
+    pub off_few : c < most_nodes
+    off_few = let (q, l, s, n, e) = g in row_few (O.off.row c (omega arith))
 
     pub off_opens : Opens t.span c b.end
     off_opens = rw (← g.4) first.1
 
-    pub off_fits : Takes from w (off_at t.code t.span x y c)
-    off_fits = left_fits _ _ first.3
-
-    pub off_next : {w' : Writer} → w' ≡ filled_by from w (off_at t.code t.span x y c) → OffBy t x y b' z from w'
-    off_next f =
+    next_by : {w' : Writer} → w' ≡ filled_by from w (off_at t.code t.span x y c) → OffBy t x y b' z from w'
+    next_by f =
         let (r, o, h, L) = first in
         record { of = ap (λ r. r.now) g.2 ∙ O.of; off = record { forest = r; held = h; row = rw g.4 O.off.row; left = left_step _ _ L f } }
+
+    -- it is on the ways, and writes nothing
+    pub off_passed : (covers t.span c x || covers t.span c y) ≡ true → OffBy t x y b' z from w
+    unfolding off_at
+    off_passed p = next_by (rw p (sym (filled_by_nil from w)))
+
+    -- it is off the ways, and its branch is next
+    module _ (p : (covers t.span c x || covers t.span c y) ≡ false) where
+      off_branch : off_at t.code t.span x y c ≡ branch (chain_at t.code t.span c) ∷ []
+      unfolding off_at
+      off_branch = rw p
+
+      pub off_requires : IsRow t c × (from ≤ w.length) × Takes from w (branch (chain_at t.code t.span c) ∷ [])
+      off_requires =
+          let (q, l, s, n, e) = g in (O.off.row c (omega arith), O.off.left.reached, rw off_branch at (left_fits (off_at t.code t.span x y c) _ first.3))
+
+      pub off_branched : {w' : Writer} → w' ≡ filled_by from w (branch (chain_at t.code t.span c) ∷ []) → OffBy t x y b' z from w'
+      off_branched f = next_by (rw off_branch f)
 
   pub off_end : {b : Brothers} → OffBy t x y b z from w → b.end ≤ b.next → w ≡ z
   unfolding map_t
@@ -214,16 +229,6 @@ module _ (t : TreeRows) (u from : ℕ) (w : Writer) (R : IsRow t u) (l : from �
 
       pub left_more : (get_or t.kids u 0 ≡ 1 → ⊥) → Rest w₂ (branches_at t.code t.span u u u)
       left_more e = left_is (onward_more R e) (left_step _ _ (child_step chain_start a) b)
-
--- the factors of a child off the ways are its branch, and one on them has none
-module _ (code span : List ℕ) (x y c : ℕ) where
-  pub off_branch : (covers span c x || covers span c y) ≡ false → off_at code span x y c ≡ branch (chain_at code span c) ∷ []
-  unfolding off_at
-  off_branch e = rw e
-
-  pub off_way : (covers span c x || covers span c y) ≡ true → off_at code span x y c ≡ []
-  unfolding off_at
-  off_way e = rw e
 
 -- ------------------------------------------------------------------ a node's own factors
 -- the label, and then the branches off the ways

@@ -103,6 +103,10 @@ pub fill_parent : (from at : ℕ) → fill from at (parent ∷ []) ≡ factor fr
 unfolding dec_lt
 fill_parent from at = fill_one from at parent
 
+-- nothing joins the first factor
+pub joint_none : (from at : ℕ) (w : Writer) → at ≤ from → w ≡ filled w (joint (ltb from at))
+joint_none from at w l = rw (le-ltb from at l) (sym (filled_nil w))
+
 -- no factors, and some behind others
 pub filled_by_nil : (from : ℕ) (w : Writer) → filled_by from w [] ≡ w
 filled_by_nil from w = ap (filled w) (fill_nil from w.length) ∙ filled_nil w

@@ -16,6 +16,7 @@ use rows::TreeRows;
 use word::sign::{CHILD, COMPOSITION, FIRST_LABEL, FIRST_PROJECTION};
 
 // The factor that went to place `at` is joined to what stands before it.
+#[tactic(auto, using(crate::proofs::Joining::joint_none))]
 pub fn join(w: &mut Writer, from: usize, at: usize)
     requires { Fits w.old (joint (ltb from at)) }
     ensures { w.new ≡ filled w.old (joint (ltb from at)) }
@@ -26,6 +27,7 @@ pub fn join(w: &mut Writer, from: usize, at: usize)
 }
 
 // A factor of one sign.
+#[tactic(auto, using(crate::proofs::Joining::fits_rest, crate::proofs::Joining::filled_both))]
 pub fn put_sign(w: &mut Writer, from: usize, sign: u32)
     requires { Fits w.old (factor from w.old.length (num sign)) }
     ensures { w.new ≡ filled w.old (factor from w.old.length (num sign)) }

@@ -7,7 +7,8 @@ use native.Mathlib.Omega.{arith}
 use lib.ListN.{length, get_or}
 use lib.Dec.{ltb}
 use borrow.Author.Tests.{lt-ltb, ne_eqb}
-use Rattle.meaning.specs.Number.{num}
+use Rattle.meaning.specs.Number.{num, largest_label}
+use Rattle.theory.proofs.Numbers.{num_short}
 use Rattle.meaning.specs.Tree.{Forest, bare, tree, Tag, size}
 use Rattle.meaning.specs.Normal.{all, either_in, both_in, some_tree, factors, normal, word_of}
 use Rattle.theory.proofs.Count.{bit, count, src, dst}
@@ -16,11 +17,12 @@ use Rattle.rows.specs.Rows.{lab_of, FirstRow, covers, below, shape, map_t, tree_
 use Rattle.rows.proofs.Rows.{size_holds, holds_first, rows_top, width_map_t}
 use Rattle.branches.specs.Factors.{tagged, under}
 use Rattle.branches.proofs.Covers.{either_covers, covers_in}
-use Rattle.ways.specs.Ways.{Lowest}
-use Rattle.normal.specs.Forms.{QueryRows, form_at}
+use Rattle.ways.specs.Ways.{Climb, Lowest}
+use Rattle.normal.specs.Forms.{QueryRows, Unmarked, form_at}
 use Rattle.normal.specs.Weights.{lab_weight, on_way, branching, row_weight, rows_weight}
 use Rattle.normal.proofs.Weights.{several, weigh, factors_weigh, word_weigh}
 use Rattle.ways.proofs.Walk.{row_open}
+use Rattle.ways.proofs.Steps.{covers_self}
 use Rattle.normal.proofs.Marks.{src_in_lem, tagged_rows}
 use Rattle.normal.proofs.Around.{some_none, some_here, factors_rows}
 use Rattle.normal.proofs.Forms.{form_word}
@@ -36,6 +38,17 @@ unfolding lab_weight
 label_some zero ne = absurd (ne refl)
 label_some (suc l) ne = let z : suc l - 1 ≡ l = omega arith in rw z (omega arith)
 
+-- it takes at most three bytes
+pub label_short : (x : ℕ) → x ≤ suc largest_label → length (num (9 + (x - 1))) ≤ 3
+label_short x l = num_short 2 (9 + (x - 1)) (omega arith)
+
+-- each row is at itself
+pub climb_self : {code kids span up : List ℕ} {n : ℕ} → Unmarked code kids span up n → (u : ℕ) → u < n → Climb code kids span up u u
+climb_self U u l = record { mark = U.mark; n = _; rows = U.rows; within = l; covers = covers_self U.rows u l }
+
+pub unmarked : {code mark kids span up : List ℕ} {n : ℕ} → QueryRows code mark kids span up n → Unmarked code kids span up n
+unmarked Q = record { mark = _; rows = Q.rows }
+
 -- ------------------------------------------------------------------ the rows of a forest
 module _ (code kids span up : List ℕ) (s d : ℕ) where
   abbrev rows : ℕ → ℕ → ℕ
@@ -50,6 +63,9 @@ module _ (code kids span up : List ℕ) (s d : ℕ) where
       rw (y, z) (omega (arith, rows_append j k (suc u)))
 
   -- the rows that are left
+  pub rows_all : (n : ℕ) → rows (n - 0) 0 ≡ rows n 0
+  rows_all n = let z : n - 0 ≡ n = omega arith in rw z refl
+
   pub rows_next : (n u : ℕ) → u < n → rows (n - u) u ≡ row_weight code kids span up s d u + rows (n - (u + 1)) (u + 1)
   unfolding rows_weight
   rows_next n u l = let z : n - u ≡ suc (n - suc u) = omega arith in let y : u + 1 ≡ suc u = omega arith in rw (z, y) refl

@@ -14,6 +14,7 @@ pub struct Ends {
 }
 
 impl Ends {
+    #[tactic(auto, using(crate::proofs::Marks::borne_src, crate::proofs::Marks::borne_dst, crate::proofs::Marks::pair_rows))]
     pub fn of(rows: &TreeRows) -> Self
         requires { IsQuery rows.now × (0 < rows.now.len) }
         ensures source { FirstRow rows.now.mark 0 result.s }

@@ -15,6 +15,7 @@ use rows::TreeRows;
 use word::sign::FIRST_LABEL;
 
 // A label's sign and the sign that joins it; a wildcard has none.
+#[tactic(auto, unfolding(crate::specs::Weights::lab_weight), using(crate::proofs::Counting::label_some, crate::proofs::Counting::label_short))]
 fn label_weight(x: u32) -> usize
     requires { x ≤ suc largest_label }
     ensures { (result ≡ lab_weight (lab_of x)) × (result ≤ 4) }
@@ -54,7 +55,8 @@ fn row_weight(rows: &TreeRows, ends: &Ends, u: usize) -> usize
     own + 2
 }
 
-// What all rows add.
+// What all rows add. A loop: std's `sum` takes its bound from a `requires`, and here it follows from what one row adds.
+#[tactic(auto, using(crate::proofs::Counting::rows_next, crate::proofs::Counting::rows_none, crate::proofs::Counting::rows_all, crate::proofs::Counting::climb_self))]
 fn rows_weight(rows: &TreeRows, ends: &Ends) -> usize
     requires { AreRows rows.now }
     ensures { result
@@ -69,6 +71,7 @@ fn rows_weight(rows: &TreeRows, ends: &Ends) -> usize
 
 // The length of the normal form, counted row by row. The first factor is joined to nothing, which takes one sign away; if t is not the top, there is
 // one second projection, which puts it back.
+#[tactic(auto, using(crate::proofs::Forms::form_empty, crate::proofs::Counting::unmarked, crate::proofs::Counting::counted_above, crate::proofs::Counting::counted_none, crate::proofs::Counting::counted_some))]
 pub fn form_length(rows: &TreeRows) -> usize
     requires { IsQuery rows.now }
     ensures { result ≡ length (word_of (normal (tree_of rows.now))) }

@@ -25,7 +25,8 @@ pub fn lowest(rows: &TreeRows, s: usize, d: usize) -> usize
     t
 }
 
-// The child of row u at or below which row x lies.
+// The child of row u at or below which row x lies. Its own loop: a `for` over the children would want an answer behind the last, where none is due.
+#[tactic(auto, using(crate::proofs::Steps::children_start, crate::proofs::Steps::children_here))]
 fn child_to(rows: &TreeRows, u: usize, x: usize) -> usize
     requires { Part rows.now.span u × (u < x) × Covers rows.now.span u x }
     ensures { Among result (below rows.now.span u) × Covers rows.now.span result x }
@@ -40,6 +41,9 @@ fn child_to(rows: &TreeRows, u: usize, x: usize) -> usize
     }
 }
 
+// The three ways stay three functions: of a way up, the factors from s to a row are known (`ups_at` takes one more at its end), of a way down, those
+// that are left; and of the two ways down, one ends in own factors and the other in child. One loop with a closure for the step would need all three laws.
+//
 // "For each node from s up to just below t, its own factors and then parent." These are the first factors of all.
 pub fn rise(w: &mut Writer, rows: &TreeRows, s: usize, t: usize)
     requires { IsClimb rows.now t s
@@ -57,6 +61,7 @@ pub fn rise(w: &mut Writer, rows: &TreeRows, s: usize, t: usize)
 }
 
 // "The way from the top down to t (own factors of each node above t, each followed by child)", a chain of factors of its own.
+#[tactic(auto, using(crate::proofs::Writing::row_part))]
 fn way(w: &mut Writer, rows: &TreeRows, t: usize)
     requires { IsRow rows.now t
         × Takes w.old.length w.old (way_at rows.now.code rows.now.span t 0) }
@@ -89,6 +94,7 @@ pub fn above(w: &mut Writer, rows: &TreeRows, from: usize, t: usize)
 }
 
 // "For each node below t down to d, child and its own factors."
+#[tactic(auto, using(crate::proofs::Writing::row_part))]
 pub fn fall(w: &mut Writer, rows: &TreeRows, from: usize, t: usize, d: usize)
     requires { IsRow rows.now t × Covers rows.now.span t d × (from ≤ w.old.length)
         × Takes from w.old (downs_at rows.now.code rows.now.span d t) }

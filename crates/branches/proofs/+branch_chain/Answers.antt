@@ -2,8 +2,8 @@ use Rattle.std.proofs.Common.{arith, ap, sym, ◌∙◌}
 use Rattle.groups.specs.Filled.{filled}
 use Rattle.branches.proofs.Joining.{fits_first, fits_rest, filled_both, child_fits}
 use Rattle.branches.proofs.Covers.{covers_before}
-use Rattle.branches.proofs.Chains.{row_few, row_reaches, row_next, off_start, off_row, off_opens, off_fits, off_next, off_end}
-use Rattle.branches.proofs.Chains.{branch_parts, chain_start, label_fits, left_one, left_more, off_branch}
+use Rattle.branches.proofs.Chains.{row_few, row_reaches, row_next, off_start, off_opens, off_requires, off_branched, off_end}
+use Rattle.branches.proofs.Chains.{branch_parts, chain_start, label_fits, left_one, left_more}
 use Rattle.branches.proofs.+branch_chain.Goals as goal
 
 pub branch-chain-requires : goal.branch-chain-requires
@@ -57,10 +57,8 @@ pub chain-branch-w-requires : goal.chain-branch-w-requires
 chain-branch-w-requires t c =
     let (b, e, O) = c.loop-c.invariant in
     let g = c.in-Some.ensures.steps in
-    let o = off_opens c.next.new.self _ O g in
     let n = covers_before c.args.rows.now.span c.in-Some.c c.args.u (omega arith) in
-    let k = off_branch c.args.rows.now.code c.args.rows.now.span c.args.u c.args.u c.in-Some.c (rw n) in
-    (omega (arith, o.inside), (off_row c.next.new.self _ O g, O.off.left.reached, rw k at (off_fits c.next.new.self _ O g)))
+    (omega (arith, (off_opens c.next.new.self _ O g).inside), off_requires c.next.new.self _ O g (rw n))
 
 pub chain-loop-c-preserved : goal.chain-loop-c-preserved
 chain-loop-c-preserved t c =
@@ -68,8 +66,7 @@ chain-loop-c-preserved t c =
     let g = c.in-Some.ensures.steps in
     let o = off_opens c.next.new.self _ O g in
     let n = covers_before c.args.rows.now.span c.in-Some.c c.args.u (omega arith) in
-    let k = off_branch c.args.rows.now.code c.args.rows.now.span c.args.u c.args.u c.in-Some.c (rw n) in
-    (omega arith, g.4 ∙ e, off_next c.next.new.self _ O g (rw k c.branch-w.ensures))
+    (omega (arith, o.some), g.4 ∙ e, off_branched c.next.new.self _ O g (rw n) c.branch-w.ensures)
 
 pub chain-returns : goal.chain-returns
 chain-returns t c = off_end c.loop-c.invariant.2 c.in-None.ensures.steps.0

@@ -1,6 +1,5 @@
 use Rattle.std.proofs.Common.{sym, ◌∙◌}
-use Rattle.branches.proofs.Joining.{filled_by_nil}
-use Rattle.branches.proofs.Chains.{row_few, row_reaches, off_start, off_row, off_fits, off_next, off_end, own_fits, own_done, off_branch, off_way}
+use Rattle.branches.proofs.Chains.{row_few, row_reaches, off_start, off_few, off_passed, off_requires, off_branched, off_end, own_fits, own_done}
 use Rattle.branches.proofs.own.Goals as goal
 
 pub put_label-requires : goal.put_label-requires
@@ -16,24 +15,17 @@ loop-c-init c =
     rw c.into_iter-c-iterator.ensures.into_iter_gives (off_start R c.children-c-items.ensures (own_done _ _ _ _ _ _ c.args.w.now le f c.put_label.ensures))
 
 pub on_way-requires : goal.on_way-requires
-on_way-requires c = row_few (off_row c.next.new.self _ c.loop-c.invariant c.in-Some.ensures.steps)
+on_way-requires c = off_few c.next.new.self _ c.loop-c.invariant c.in-Some.ensures.steps
 
 pub branch-w-requires : goal.branch-w-requires
-branch-w-requires c =
-    let O = c.loop-c.invariant in
-    let g = c.in-Some.ensures.steps in
-    let k = off_branch c.args.rows.now.code c.args.rows.now.span c.args.x c.args.y c.in-Some.c (sym c.on_way.ensures ∙ c.if-not-on_way.true) in
-    (off_row c.next.new.self _ O g, O.off.left.reached, rw k at (off_fits c.next.new.self _ O g))
+branch-w-requires c = off_requires c.next.new.self _ c.loop-c.invariant c.in-Some.ensures.steps (sym c.on_way.ensures ∙ c.if-not-on_way.true)
 
 pub loop-c-preserved-then-not-on_way : goal.loop-c-preserved-then-not-on_way
 loop-c-preserved-then-not-on_way c =
-    let k = off_branch c.args.rows.now.code c.args.rows.now.span c.args.x c.args.y c.in-Some.c (sym c.on_way.ensures ∙ c.if-not-on_way.true) in
-    off_next c.next.new.self _ c.loop-c.invariant c.in-Some.ensures.steps (rw k c.branch-w.ensures)
+    off_branched c.next.new.self _ c.loop-c.invariant c.in-Some.ensures.steps (sym c.on_way.ensures ∙ c.if-not-on_way.true) c.branch-w.ensures
 
 pub loop-c-preserved : goal.loop-c-preserved
-loop-c-preserved c =
-    let k = off_way c.args.rows.now.code c.args.rows.now.span c.args.x c.args.y c.in-Some.c (sym c.on_way.ensures ∙ c.if-not-on_way.false) in
-    off_next c.next.new.self _ c.loop-c.invariant c.in-Some.ensures.steps (rw k (sym (filled_by_nil c.args.from c.loop-c.w)))
+loop-c-preserved c = off_passed c.next.new.self _ c.loop-c.invariant c.in-Some.ensures.steps (sym c.on_way.ensures ∙ c.if-not-on_way.false)
 
 pub returns : goal.returns
 returns c = off_end c.loop-c.invariant c.in-None.ensures.steps.0

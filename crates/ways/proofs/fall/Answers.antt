@@ -1,13 +1,7 @@
 use native.Mathlib.Omega.{arith}
-use Rattle.branches.proofs.Joining.{left_start, left_is, left_end, left_fits, child_fits}
-use Rattle.ways.proofs.Writing.{row_part, child_row, child_behind, down_start, down_own, down_done, downs_nil}
+use Rattle.branches.proofs.Joining.{left_is, left_end, left_fits, child_fits}
+use Rattle.ways.proofs.Writing.{child_row, child_behind, down_start, down_own, down_done, downs_nil}
 use Rattle.ways.proofs.fall.Goals as goal
-
-pub loop-x-init : goal.loop-x-init
-loop-x-init c = let (R, v, le, f) = c.requires in (R, v, left_start le f)
-
-pub child_to-x-requires : goal.child_to-x-requires
-child_to-x-requires c = let (R, v, L) = c.loop-x.invariant in (row_part R, omega (arith, v.from, c.loop-x-test.true), v)
 
 pub put_sign-requires : goal.put_sign-requires
 put_sign-requires c =

@@ -5,9 +5,6 @@ use Rattle.ways.proofs.lowest.Goals as goal
 pub loop-t-init : goal.loop-t-init
 loop-t-init c = lowest_start c.requires
 
-pub holds-requires : goal.holds-requires
-holds-requires c = c.loop-t.invariant.few
-
 pub loop-t-smaller : goal.loop-t-smaller
 loop-t-smaller c = omega (arith, c.at-t.ensures.0, lowest_less c.requires c.loop-t.invariant (sym c.holds.ensures ∙ c.loop-t-test.true))
 

@@ -32,6 +32,3 @@ loop-x-preserved c =
       rise_covers C c.loop-x.x tx v ne,
       rise_next C c.loop-x.x tx v ne c.args.w.now w c.own.ensures c.put_sign.ensures,
     )
-
-pub returns : goal.returns
-returns c = rw (← c.loop-x-test.false) c.loop-x.invariant.2

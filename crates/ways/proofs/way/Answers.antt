@@ -1,13 +1,10 @@
 use native.Mathlib.Omega.{arith}
 use Rattle.branches.proofs.Joining.{left_start, left_is, left_end, left_fits, left_step, child_fits, child_step}
-use Rattle.ways.proofs.Writing.{row_part, child_row, child_behind, way_start, top_row, top_covers, way_nil}
+use Rattle.ways.proofs.Writing.{child_row, child_behind, way_start, top_row, top_covers, way_nil}
 use Rattle.ways.proofs.way.Goals as goal
 
 pub loop-x-init : goal.loop-x-init
 loop-x-init c = let (R, f) = c.requires in (top_row R, top_covers R, left_start (omega arith) f)
-
-pub child_to-c-requires : goal.child_to-c-requires
-child_to-c-requires c = let (R, v, L) = c.loop-x.invariant in (row_part R, omega (arith, v.from, c.loop-x-test.true), v)
 
 pub own-requires : goal.own-requires
 own-requires c =
