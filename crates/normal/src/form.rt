@@ -27,6 +27,7 @@ fn factors(w: &mut Writer, rows: &TreeRows, ends: &Ends)
 }
 
 // The normal form of rows, written behind what the writer has; no rows are empty, the word 0. "With no factor at all the word is 1."
+#[tactic(auto, using(crate::proofs::Forms::form_empty))]
 pub fn put_form(w: &mut Writer, rows: &TreeRows)
     requires { IsQuery rows.now
         × (w.old.length + length (word_of (normal (tree_of rows.now))) ≤ length w.old.room.now) }

@@ -1,15 +1,9 @@
 -- No rows; no factor at all; or the factors.
 use Rattle.std.proofs.Common.{sym, ap, arith, length, ◌∙◌}
 use Rattle.groups.specs.Filled.{filled}
-use Rattle.normal.proofs.Forms.{form_empty, form_fits, form_some, form_none}
+use Rattle.normal.proofs.Forms.{form_fits, form_some, form_none}
 use Rattle.normal.proofs.Marks.{src_in_lem}
 use Rattle.normal.proofs.form.put_form.Goals as goal
-
-pub put_byte-requires : goal.put_byte-requires
-put_byte-requires c = omega (arith, c.requires.1, ap length (form_empty c.requires.0 c.if-rows-eq0.true))
-
-pub returns-then-rows-eq0 : goal.returns-then-rows-eq0
-returns-then-rows-eq0 c = c.put_byte.ensures ∙ ap (filled c.args.w.now) (sym (form_empty c.requires.0 c.if-rows-eq0.true))
 
 pub factors-requires : goal.factors-requires
 factors-requires c =
