@@ -7,34 +7,34 @@ use Prim.Native.Nat.{ℕ, ◌+◌, ◌*◌, ◌<◌, ◌≤◌}
 use native.Mathlib.Omega.{arith}
 use native.Mathlib.Decide.{dec_lt}
 use native.Mathlib.Nat.{mul-le-mul_right}
-use borrow.Author.Tests.{lt-ltb, le-ltb}
+use borrow.Author.Tests.{lt-ltb, le-ltb, eq-eqb, ne_eqb}
+use Rattle.std.specs.Ordering.{ordering_then, is_le, nat_cmp}
+use Rattle.std.specs.declared.cmp.Ordering.{Ordering}
+use Rattle.std.specs.declared.cmp.Ordering.TheVariants.{Less, Equal, Greater}
 use Rattle.meaning.specs.Basics.{pick}
 use Rattle.meaning.specs.Image.{LeL, dec_l}
 use Rattle.theory.proofs.Look.{never}
-use Rattle.order.specs.declared.sorting.Order.{Order}
-use Rattle.order.specs.declared.sorting.Order.TheVariants.{Before, Same, After}
-use Rattle.order.specs.Links.{then_by, cmp_n, up_to}
 
-pub then_assoc : (a b c : Order) → then_by (then_by a b) c ≡ then_by a (then_by b c)
-then_assoc Before b c = refl
-then_assoc Same b c = refl
-then_assoc After b c = refl
+pub then_assoc : (a b c : Ordering) → ordering_then (ordering_then a b) c ≡ ordering_then a (ordering_then b c)
+then_assoc Less b c = refl
+then_assoc Equal b c = refl
+then_assoc Greater b c = refl
 
 -- ------------------------------------------------------------------ numbers
-pub cmp_lt : (a b : ℕ) → a < b → cmp_n a b ≡ Before
+pub cmp_lt : (a b : ℕ) → a < b → nat_cmp a b ≡ Less
 cmp_lt a b h = rw (lt-ltb a b h)
 
-pub cmp_gt : (a b : ℕ) → b < a → cmp_n a b ≡ After
-cmp_gt a b h = let g : b ≤ a = omega arith in rw (le-ltb a b g, lt-ltb b a h)
+pub cmp_gt : (a b : ℕ) → b < a → nat_cmp a b ≡ Greater
+cmp_gt a b h = let g : b ≤ a = omega arith in rw (le-ltb a b g, ne_eqb a b (λ e. omega arith))
 
-pub cmp_eq : (a b : ℕ) → b ≤ a → a ≤ b → cmp_n a b ≡ Same
-cmp_eq a b h g = rw (le-ltb a b h, le-ltb b a g)
+pub cmp_eq : (a b : ℕ) → b ≤ a → a ≤ b → nat_cmp a b ≡ Equal
+cmp_eq a b h g = let e : a ≡ b = omega arith in rw (le-ltb a b h, eq-eqb a b e)
 
 -- what an answer says
 pub data Three (a b : ℕ) : Type 0 where
-  lower : a < b → cmp_n a b ≡ Before → Three a b
-  equal : a ≡ b → cmp_n a b ≡ Same → Three a b
-  upper : b < a → cmp_n a b ≡ After → Three a b
+  lower : a < b → nat_cmp a b ≡ Less → Three a b
+  equal : a ≡ b → nat_cmp a b ≡ Equal → Three a b
+  upper : b < a → nat_cmp a b ≡ Greater → Three a b
 
 pub three : (a b : ℕ) → Three a b
 three a b = go (dec_lt a b) (dec_lt b a)
@@ -45,7 +45,7 @@ three a b = go (dec_lt a b) (dec_lt b a)
     go (no n) (no m) = equal (omega arith) (cmp_eq a b (omega arith) (omega arith))
 
 -- numbers in two digits compare digit by digit, whatever the first one weighs
-pub digit_cmp : (W a a' b b' : ℕ) → b < W → b' < W → cmp_n (a * W + b) (a' * W + b') ≡ then_by (cmp_n a a') (cmp_n b b')
+pub digit_cmp : (W a a' b b' : ℕ) → b < W → b' < W → nat_cmp (a * W + b) (a' * W + b') ≡ ordering_then (nat_cmp a a') (nat_cmp b b')
 digit_cmp W a a' b b' l l' = go (three a a') (three b b')
   where
     X : ℕ
@@ -54,7 +54,7 @@ digit_cmp W a a' b b' l l' = go (three a a') (three b b')
     Y : ℕ
     Y = a' * W + b'
 
-    go : Three a a' → Three b b' → cmp_n X Y ≡ then_by (cmp_n a a') (cmp_n b b')
+    go : Three a a' → Three b b' → nat_cmp X Y ≡ ordering_then (nat_cmp a a') (nat_cmp b b')
     go (lower h e) y = let m = mul-le-mul_right W h in cmp_lt X Y (omega arith) ∙ rw e
     go (upper h e) y = let m = mul-le-mul_right W h in cmp_gt X Y (omega arith) ∙ rw e
     go (equal z e) (lower h e') = let m = ap (λ (x : ℕ). x * W) z in cmp_lt X Y (omega arith) ∙ rw (e, e')
@@ -62,53 +62,53 @@ digit_cmp W a a' b b' l l' = go (three a a') (three b b')
     go (equal z e) (equal h e') = let m = ap (λ (x : ℕ). x * W) z in cmp_eq X Y (omega arith) (omega arith) ∙ rw (e, e')
 
 -- ------------------------------------------------------------------ bytes
-unfoldable pub cmp_l : List ℕ → List ℕ → Order
-cmp_l [] [] = Same
-cmp_l [] (y ∷ ys) = Before
-cmp_l (x ∷ xs) [] = After
-cmp_l (x ∷ xs) (y ∷ ys) = then_by (cmp_n x y) (cmp_l xs ys)
+unfoldable pub cmp_l : List ℕ → List ℕ → Ordering
+cmp_l [] [] = Equal
+cmp_l [] (y ∷ ys) = Less
+cmp_l (x ∷ xs) [] = Greater
+cmp_l (x ∷ xs) (y ∷ ys) = ordering_then (nat_cmp x y) (cmp_l xs ys)
 
-pub cmp_same : (xs ys : List ℕ) → cmp_l xs ys ≡ Same → xs ≡ ys
+pub cmp_same : (xs ys : List ℕ) → cmp_l xs ys ≡ Equal → xs ≡ ys
 unfolding cmp_l
 cmp_same [] [] h = refl
 cmp_same [] (y ∷ ys) h = never cc
 cmp_same (x ∷ xs) [] h = never cc
 cmp_same (x ∷ xs) (y ∷ ys) h = go (three x y) (cmp_same xs ys)
   where
-    go : Three x y → (cmp_l xs ys ≡ Same → xs ≡ ys) → x ∷ xs ≡ y ∷ ys
-    go (lower l e) ih = let z : Before ≡ Same = rw e at h in never cc
-    go (upper l e) ih = let z : After ≡ Same = rw e at h in never cc
+    go : Three x y → (cmp_l xs ys ≡ Equal → xs ≡ ys) → x ∷ xs ≡ y ∷ ys
+    go (lower l e) ih = let z : Less ≡ Equal = rw e at h in never cc
+    go (upper l e) ih = let z : Greater ≡ Equal = rw e at h in never cc
     go (equal l e) ih = let t : xs ≡ ys = ih (rw e at h) in cc
 
-le_cmp : (xs ys : List ℕ) → LeL xs ys → up_to (cmp_l xs ys) ≡ true
+le_cmp : (xs ys : List ℕ) → LeL xs ys → is_le (cmp_l xs ys) ≡ true
 unfolding cmp_l
 le_cmp [] [] h = refl
 le_cmp [] (y ∷ ys) h = refl
 le_cmp (x ∷ xs) [] h = absurd h
 le_cmp (x ∷ xs) (y ∷ ys) h = go (three x y) h (le_cmp xs ys)
   where
-    go : Three x y → (x < y) ⊎ ((x ≡ y) × LeL xs ys) → (LeL xs ys → up_to (cmp_l xs ys) ≡ true) → up_to (then_by (cmp_n x y) (cmp_l xs ys)) ≡ true
+    go : Three x y → (x < y) ⊎ ((x ≡ y) × LeL xs ys) → (LeL xs ys → is_le (cmp_l xs ys) ≡ true) → is_le (ordering_then (nat_cmp x y) (cmp_l xs ys)) ≡ true
     go (lower l e) z ih = rw e
     go (equal q e) (inl z) ih = absurd (omega arith)
     go (equal q e) (inr (z, z')) ih = rw e (ih z')
     go (upper l e) (inl z) ih = absurd (omega arith)
     go (upper l e) (inr (z, z')) ih = absurd (omega arith)
 
-not_le_cmp : (xs ys : List ℕ) → ¬ LeL xs ys → up_to (cmp_l xs ys) ≡ false
+not_le_cmp : (xs ys : List ℕ) → ¬ LeL xs ys → is_le (cmp_l xs ys) ≡ false
 unfolding cmp_l
 not_le_cmp [] ys h = absurd (h tt)
 not_le_cmp (x ∷ xs) [] h = refl
 not_le_cmp (x ∷ xs) (y ∷ ys) h = go (three x y) (not_le_cmp xs ys)
   where
-    go : Three x y → (¬ LeL xs ys → up_to (cmp_l xs ys) ≡ false) → up_to (then_by (cmp_n x y) (cmp_l xs ys)) ≡ false
+    go : Three x y → (¬ LeL xs ys → is_le (cmp_l xs ys) ≡ false) → is_le (ordering_then (nat_cmp x y) (cmp_l xs ys)) ≡ false
     go (lower l e) ih = absurd (h (inl l))
     go (equal q e) ih = rw e (ih (λ z. h (inr (q, z))))
     go (upper l e) ih = rw e
 
 -- ascending byte order, decided, is the comparison of bytes
-pub pick_cmp : {A : Type 0} (xs ys : List ℕ) (a b : A) → pick (dec_l xs ys) a b ≡ cond (up_to (cmp_l xs ys)) a b
+pub pick_cmp : {A : Type 0} (xs ys : List ℕ) (a b : A) → pick (dec_l xs ys) a b ≡ cond (is_le (cmp_l xs ys)) a b
 pick_cmp {A} xs ys a b = go (dec_l xs ys)
   where
-    go : (d : Dec (LeL xs ys)) → pick d a b ≡ cond (up_to (cmp_l xs ys)) a b
+    go : (d : Dec (LeL xs ys)) → pick d a b ≡ cond (is_le (cmp_l xs ys)) a b
     go (yes p) = rw (le_cmp xs ys p)
     go (no n) = rw (not_le_cmp xs ys n)

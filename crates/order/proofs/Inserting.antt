@@ -7,9 +7,10 @@ use Prim.Native.Nat.{ℕ, suc, ◌<◌, ◌≤◌}
 use native.Mathlib.Omega.{arith}
 use lib.ListN.{get_or, set, length-set}
 use lib.Seq.{get_or-set_same, get_or-set_other}
+use Rattle.std.specs.Ordering.{is_le}
 use Rattle.meaning.specs.Tree.{Forest, bare, tree, size}
 use Rattle.rows.specs.Rows.{width}
-use Rattle.order.specs.Links.{forest_at, Linked, In, Apart, cmp_f, cmp_t, up_to, place_by, ordered_by, spot_of, spot_at, Ready, PutAmong}
+use Rattle.order.specs.Links.{forest_at, Linked, In, Apart, cmp_f, cmp_t, place_by, ordered_by, spot_of, spot_at, Ready, PutAmong}
 
 -- ------------------------------------------------------------------ links that are kept
 pub kept : (n : ℕ) (fs ns fs' ns' : List ℕ) (F : Forest ℕ) (c : ℕ)
@@ -33,7 +34,7 @@ module _ (key : List ℕ) (c : ℕ) (K : Forest ℕ) where
   in_place : (Q : Forest ℕ) (j : ℕ) → In j (place_by key c K Q) → (j ≡ c) ⊎ In j K ⊎ In j Q
   unfolding place_by
   in_place bare j m = m
-  in_place (tree b l r) j m = go (in_place r j) (up_to (cmp_t key c K b l)) m
+  in_place (tree b l r) j m = go (in_place r j) (is_le (cmp_t key c K b l)) m
     where
       up : (j ≡ c) ⊎ In j K ⊎ In j r → (j ≡ c) ⊎ In j K ⊎ In j (tree b l r)
       up (inl y) = inl y
@@ -51,7 +52,7 @@ module _ (key : List ℕ) (c : ℕ) (K : Forest ℕ) where
   unfolding place_by
   apart_place bare a = a
   apart_place (tree b l r) (ck, cq, kq, ak, (bl, br, lr, al, ar)) =
-      go (apart_place r (ck, (λ m. cq (inr (inr m))), (λ j m m'. kq j m (inr (inr m'))), ak, ar)) (up_to (cmp_t key c K b l))
+      go (apart_place r (ck, (λ m. cq (inr (inr m))), (λ j m m'. kq j m (inr (inr m'))), ak, ar)) (is_le (cmp_t key c K b l))
     where
       one : (b ≡ c) ⊎ In b K ⊎ In b r → ⊥
       one (inl e) = cq (inl (sym e))
@@ -70,7 +71,7 @@ module _ (key : List ℕ) (c : ℕ) (K : Forest ℕ) where
   size_place : (Q : Forest ℕ) → size (place_by key c K Q) ≡ size (tree c K Q)
   unfolding place_by
   size_place bare = refl
-  size_place (tree b l r) = go (size_place r) (up_to (cmp_t key c K b l))
+  size_place (tree b l r) = go (size_place r) (is_le (cmp_t key c K b l))
     where
       go : size (place_by key c K r) ≡ size (tree c K r) → (t : Bool) → size (cond t (tree c K (tree b l r)) (tree b l (place_by key c K r))) ≡ size (tree c K (tree b l r))
       go ih true = refl
@@ -79,7 +80,7 @@ module _ (key : List ℕ) (c : ℕ) (K : Forest ℕ) where
   width_place : (Q : Forest ℕ) → width (place_by key c K Q) ≡ suc (width Q)
   unfolding place_by
   width_place bare = refl
-  width_place (tree b l r) = go (up_to (cmp_t key c K b l)) (width_place r)
+  width_place (tree b l r) = go (is_le (cmp_t key c K b l)) (width_place r)
     where
       go : (t : Bool) → width (place_by key c K r) ≡ suc (width r) → width (cond t (tree c K (tree b l r)) (tree b l (place_by key c K r))) ≡ suc (suc (width r))
       go true ih = refl
@@ -109,7 +110,7 @@ module _ {n : ℕ} {fs ns : List ℕ} {c q : ℕ} (w : Ready n fs ns c q) (key :
   unfolding spot_of place_by
   lands bare x p₀ h a cF kF = inl (refl, refl)
   lands (tree b l r) x p₀ (e, lb, hl, hr) (bl, br, lr, al, ar) cF kF =
-      go (up_to (cmp_t key c K b l)) (lands r (get_or ns b 0) b hr ar (λ m. cF (inr (inr m))) (λ j m m'. kF j m (inr (inr m'))))
+      go (is_le (cmp_t key c K b l)) (lands r (get_or ns b 0) b hr ar (λ m. cF (inr (inr m))) (λ j m m'. kF j m (inr (inr m'))))
     where
       p' : Bool → ℕ
       p' t = cond t p₀ (spot_of key c K b r)
@@ -236,7 +237,7 @@ module _ (key : List ℕ) where
   each_place : (P : ℕ → ℕ → Type 0) (i : ℕ) (k R : Forest ℕ) → Each P (tree i k R) → Each P (place_by key i k R)
   unfolding place_by
   each_place P i k bare h = h
-  each_place P i k (tree j l r) (pi, pk, (pj, pl, pr)) = go (up_to (cmp_t key i k j l)) (each_place P i k r (pi, pk, pr))
+  each_place P i k (tree j l r) (pi, pk, (pj, pl, pr)) = go (is_le (cmp_t key i k j l)) (each_place P i k r (pi, pk, pr))
     where
       go : (t : Bool) → Each P (place_by key i k r) → Each P (cond t (tree i k (tree j l r)) (tree j l (place_by key i k r)))
       go true ih = (pi, pk, (pj, pl, pr))

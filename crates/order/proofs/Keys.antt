@@ -6,10 +6,10 @@ use Prim.Native.Nat.{ℕ, zero, suc, ◌+◌, ◌*◌, ◌/◌, ◌%◌, ◌<◌
 use native.Mathlib.Omega.{arith}
 use native.Mathlib.Decide.{dec_lt}
 use native.Mathlib.Nat.{mul-le-mul_right}
+use Rattle.std.specs.Ordering.{ordering_then, nat_cmp}
+use Rattle.std.specs.declared.cmp.Ordering.TheVariants.{Equal}
 use Rattle.meaning.specs.Number.{num_f, num}
 use Rattle.theory.proofs.Numbers.{num_f_one, num_f_more, num_one, reach, num_back}
-use Rattle.order.specs.declared.sorting.Order.TheVariants.{Same}
-use Rattle.order.specs.Links.{then_by, cmp_n}
 use Rattle.order.specs.Keys.{weight, filled, three_bytes, key_of}
 use Rattle.order.proofs.Comparing.{then_assoc, cmp_lt, cmp_gt, cmp_eq, digit_cmp, cmp_l, cmp_same}
 
@@ -43,12 +43,12 @@ filled_lt (last {k = k} h) = let z = filled_none k in let m = mul-le-mul_right (
 filled_lt (more {k = k} h g r) = let z = filled_lt r in let m = mul-le-mul_right (weight k) g in omega arith
 
 -- with what follows them: the numbers in which they are filled up compare as the bytes
-bytes_cmp : {k : ℕ} {bs cs : List ℕ} (x y : List ℕ) → Bytes k bs → Bytes k cs → cmp_l (bs ++ x) (cs ++ y) ≡ then_by (cmp_n (filled k bs) (filled k cs)) (cmp_l x y)
+bytes_cmp : {k : ℕ} {bs cs : List ℕ} (x y : List ℕ) → Bytes k bs → Bytes k cs → cmp_l (bs ++ x) (cs ++ y) ≡ ordering_then (nat_cmp (filled k bs) (filled k cs)) (cmp_l x y)
 unfolding cmp_l filled
 bytes_cmp x y (last {k = k} {b = b} h) (last {b = c} h') =
     let z = filled_none k in
     rw (digit_cmp (weight k) b c (filled k []) (filled k []) (omega (arith, z.0, z.1)) (omega (arith, z.0, z.1)), cmp_eq (filled k []) (filled k []) (omega arith) (omega arith))
-    (sym (then_assoc (cmp_n b c) Same (cmp_l x y)))
+    (sym (then_assoc (nat_cmp b c) Equal (cmp_l x y)))
 bytes_cmp x y (last {k = k} {b = b} h) (more {b = c} {bs = cs} h' g' r') =
     let z = filled_none k in
     rw (digit_cmp (weight k) b c (filled k []) (filled k cs) (omega (arith, z.0, z.1)) (filled_lt r'), cmp_lt b c (omega arith))
@@ -57,9 +57,9 @@ bytes_cmp x y (more {k = k} {b = b} {bs = bs} h g r) (last {b = c} h') =
     rw (digit_cmp (weight k) b c (filled k bs) (filled k []) (filled_lt r) (omega (arith, z.0, z.1)), cmp_gt b c (omega arith))
 bytes_cmp x y (more {k = k} {b = b} {bs = bs} h g r) (more {b = c} {bs = cs} h' g' r') =
     rw (digit_cmp (weight k) b c (filled k bs) (filled k cs) (filled_lt r) (filled_lt r'), bytes_cmp x y r r')
-    (sym (then_assoc (cmp_n b c) (cmp_n (filled k bs) (filled k cs)) (cmp_l x y)))
+    (sym (then_assoc (nat_cmp b c) (nat_cmp (filled k bs) (filled k cs)) (cmp_l x y)))
 
-num_cmp : (n m : ℕ) (x y : List ℕ) → n < 2097152 → m < 2097152 → cmp_l (num n ++ x) (num m ++ y) ≡ then_by (cmp_n (three_bytes n) (three_bytes m)) (cmp_l x y)
+num_cmp : (n m : ℕ) (x y : List ℕ) → n < 2097152 → m < 2097152 → cmp_l (num n ++ x) (num m ++ y) ≡ ordering_then (nat_cmp (three_bytes n) (three_bytes m)) (cmp_l x y)
 unfolding three_bytes
 num_cmp n m x y ln lm = bytes_cmp x y (bytes n ln) (bytes m lm)
 
@@ -75,14 +75,14 @@ three_back n m ln lm h =
 
 -- ------------------------------------------------------------------ keys
 module _ (l m c l' m' c' : ℕ) (ll : l < 2097152) (lm : m < 128) (lc : c < 2097152) (ll' : l' < 2097152) (lm' : m' < 128) (lc' : c' < 2097152) where
-  key_cmp : cmp_n (key_of l m c) (key_of l' m' c') ≡ then_by (then_by (cmp_n (three_bytes l) (three_bytes l')) (cmp_n m m')) (cmp_n (three_bytes c) (three_bytes c'))
+  key_cmp : nat_cmp (key_of l m c) (key_of l' m' c') ≡ ordering_then (ordering_then (nat_cmp (three_bytes l) (three_bytes l')) (nat_cmp m m')) (nat_cmp (three_bytes c) (three_bytes c'))
   unfolding key_of
   key_cmp =
       digit_cmp 16777216 (three_bytes l * 256 + m) (three_bytes l' * 256 + m') (three_bytes c) (three_bytes c') (three_lt c lc) (three_lt c' lc')
       ∙ rw (digit_cmp 256 (three_bytes l) (three_bytes l') m m' (omega arith) (omega arith))
 
   -- the first three numbers of two records, with what follows them
-  pub head_cmp : (x y : List ℕ) → cmp_l (num l ++ (num m ++ (num c ++ x))) (num l' ++ (num m' ++ (num c' ++ y))) ≡ then_by (cmp_n (key_of l m c) (key_of l' m' c')) (cmp_l x y)
+  pub head_cmp : (x y : List ℕ) → cmp_l (num l ++ (num m ++ (num c ++ x))) (num l' ++ (num m' ++ (num c' ++ y))) ≡ ordering_then (nat_cmp (key_of l m c) (key_of l' m' c')) (cmp_l x y)
   unfolding cmp_l
   head_cmp x y =
       rw (

@@ -9,13 +9,14 @@ use native.Mathlib.Decide.{ℕ_discrete}
 use lib.ListN.{get_or}
 use lib.Dec.{ltb}
 use borrow.Author.Tests.{lt-ltb, le-ltb, ltb-true}
+use Rattle.std.specs.Ordering.{ordering_then, is_ne, is_le, nat_cmp}
+use Rattle.std.specs.declared.cmp.Ordering.{Ordering}
+use Rattle.std.specs.declared.cmp.Ordering.TheVariants.{Less, Equal, Greater}
 use Rattle.meaning.specs.Tree.{Forest, bare, tree, size}
 use Rattle.rows.specs.Rows.{no_row}
 use Rattle.theory.proofs.Canon.{height}
-use Rattle.order.specs.declared.sorting.Order.{Order}
-use Rattle.order.specs.declared.sorting.Order.TheVariants.{Before, Same, After}
-use Rattle.order.specs.Links.{slot_of, Known, forest_from, forest_at, Linked, Finite, then_by, cmp_n, cmp_f, compared_at, up_to, goes_first, spot_of}
-use Rattle.order.proofs.Comparing.{cmp_lt, cmp_gt, cmp_eq}
+use Rattle.order.specs.Links.{slot_of, Known, forest_from, forest_at, Linked, Finite, cmp_f, compared_at, goes_first, spot_of}
+use Rattle.theory.proofs.Look.{never}
 
 -- ------------------------------------------------------------------ slots
 pub slot_row : (n p : ℕ) → p < n → p ≡ slot_of n p
@@ -100,6 +101,16 @@ goes_along w l e =
     (rw e o.along, rw e (omega arith), rw e (height_tree _ _ _ _ o.reads).1)
 
 -- ------------------------------------------------------------------ comparing what is read at x and y
+then_ne : (o p : Ordering) → is_ne o ≡ true → ordering_then o p ≡ o
+then_ne Less p e = refl
+then_ne Equal p e = never cc
+then_ne Greater p e = refl
+
+is_equal : (o : Ordering) → is_ne o ≡ false → o ≡ Equal
+is_equal Less e = never cc
+is_equal Equal e = refl
+is_equal Greater e = never cc
+
 -- the brothers from a on and from b on are left to compare, and lie no deeper
 pub record Pending (n : ℕ) (fs ns key : List ℕ) (x y a b : ℕ) : Type 0 where
   pub one : Finite n fs ns a
@@ -112,15 +123,15 @@ unfolding compared_at
 pending n fs ns key x y wx wy = record { one = wx; two = wy; level = omega arith; same = refl }
 
 module _ {n : ℕ} {fs ns key : List ℕ} {x y a b : ℕ} (P : Pending n fs ns key x y a b) where
-  pub none_none : n ≤ a → n ≤ b → Same ≡ compared_at n fs ns key x y
+  pub none_none : n ≤ a → n ≤ b → Equal ≡ compared_at n fs ns key x y
   unfolding cmp_f
   none_none ha hb = sym (rw (P.same, read_none n fs ns a ha, read_none n fs ns b hb))
 
-  pub none_some : n ≤ a → b < n → Before ≡ compared_at n fs ns key x y
+  pub none_some : n ≤ a → b < n → Less ≡ compared_at n fs ns key x y
   unfolding cmp_f
   none_some ha hb = sym (rw (P.same, read_none n fs ns a ha, (opens P.two hb).reads))
 
-  pub some_none : a < n → n ≤ b → After ≡ compared_at n fs ns key x y
+  pub some_none : a < n → n ≤ b → Greater ≡ compared_at n fs ns key x y
   unfolding cmp_f
   some_none ha hb = sym (rw (P.same, read_none n fs ns b hb, (opens P.one ha).reads))
 
@@ -137,35 +148,32 @@ module _ {n : ℕ} {fs ns key : List ℕ} {x y a b : ℕ} (P : Pending n fs ns k
     abbrev l : ℕ
     l = get_or key b 0
 
-    rest : Order
+    rest : Ordering
     rest = cmp_f key (forest_at n fs ns (get_or ns a 0)) (forest_at n fs ns (get_or ns b 0))
 
-    opened : compared_at n fs ns key x y ≡ then_by (cmp_n k l) (then_by (cmp_f key (forest_at n fs ns (get_or fs a 0)) (forest_at n fs ns (get_or fs b 0))) rest)
+    opened : compared_at n fs ns key x y ≡ ordering_then (nat_cmp k l) (ordering_then (cmp_f key (forest_at n fs ns (get_or fs a 0)) (forest_at n fs ns (get_or fs b 0))) rest)
     unfolding rest
     opened = P.same ∙ rw ((opens P.one ha).reads, (opens P.two hb).reads) (unfold cmp_f in refl)
 
-    pub by_less : k < l → Before ≡ compared_at n fs ns key x y
-    by_less h = sym (rw (opened, cmp_lt k l h))
+    module _ {o : Ordering} (eo : o ≡ nat_cmp k l) where
+      -- the keys tell
+      pub by_keys : is_ne o ≡ true → o ≡ compared_at n fs ns key x y
+      by_keys d = sym (rw (opened, ← eo) (then_ne o _ d))
 
-    pub by_more : l < k → After ≡ compared_at n fs ns key x y
-    by_more h = sym (rw (opened, cmp_gt k l h))
+      module _ (z : is_ne o ≡ false) {i j : ℕ} (ei : i ≡ get_or fs a 0) (ej : j ≡ get_or fs b 0) {p : Ordering} (ep : p ≡ compared_at n fs ns key i j) where
+        equal : compared_at n fs ns key x y ≡ ordering_then p rest
+        unfolding compared_at
+        equal = rw (opened, ← eo, is_equal o z, ep, ei, ej)
 
-    module _ (h : l ≤ k) (g : k ≤ l) {i j : ℕ} (ei : i ≡ get_or fs a 0) (ej : j ≡ get_or fs b 0) {o : Order} (eo : o ≡ compared_at n fs ns key i j) where
-      equal : compared_at n fs ns key x y ≡ then_by o rest
-      unfolding compared_at
-      equal = rw (opened, cmp_eq k l h g, eo, ei, ej)
+        -- what lies below them tells
+        pub by_kids : is_ne p ≡ true → p ≡ compared_at n fs ns key x y
+        by_kids d = sym (equal ∙ then_ne p rest d)
 
-      pub by_before : o ≡ Before → Before ≡ compared_at n fs ns key x y
-      by_before e = sym (rw (equal, e))
-
-      pub by_after : o ≡ After → After ≡ compared_at n fs ns key x y
-      by_after e = sym (rw (equal, e))
-
-      pub pending_next : o ≡ Same → {a' b' : ℕ} → a' ≡ get_or ns a 0 → b' ≡ get_or ns b 0 → Pending n fs ns key x y a' b'
-      unfolding rest
-      pending_next e ea eb =
-          let u = goes_along P.one ha ea in
-          record { one = u.0; two = (goes_along P.two hb eb).0; level = omega (arith, u.2, P.level); same = rw (equal, e, ea, eb) }
+        pub pending_next : is_ne p ≡ false → {a' b' : ℕ} → a' ≡ get_or ns a 0 → b' ≡ get_or ns b 0 → Pending n fs ns key x y a' b'
+        unfolding rest
+        pending_next y ea eb =
+            let u = goes_along P.one ha ea in
+            record { one = u.0; two = (goes_along P.two hb eb).0; level = omega (arith, u.2, P.level); same = rw (equal, is_equal p y, ea, eb) }
 
 -- ------------------------------------------------------------------ goes first
 module _ (n : ℕ) (fs ns key : List ℕ) (c q : ℕ) where
@@ -175,18 +183,18 @@ module _ (n : ℕ) (fs ns key : List ℕ) (c q : ℕ) where
   abbrev b : ℕ
   b = get_or key q 0
 
-  pub first_less : a < b → true ≡ goes_first n fs ns key c q
+  pub first_less : nat_cmp a b ≡ Less → true ≡ goes_first n fs ns key c q
   unfolding goes_first
-  first_less h = sym (rw (cmp_lt a b h))
+  first_less e = sym (rw e)
 
-  pub first_more : b < a → false ≡ goes_first n fs ns key c q
+  pub first_more : nat_cmp a b ≡ Greater → false ≡ goes_first n fs ns key c q
   unfolding goes_first
-  first_more h = sym (rw (cmp_gt a b h))
+  first_more e = sym (rw e)
 
-  pub first_kids : b ≤ a → a ≤ b → {i j : ℕ} → i ≡ get_or fs c 0 → j ≡ get_or fs q 0 → {o p : Order} → o ≡ compared_at n fs ns key i j → o ≡ p
-      → up_to p ≡ goes_first n fs ns key c q
+  pub first_kids : nat_cmp a b ≡ Equal → {i j : ℕ} → i ≡ get_or fs c 0 → j ≡ get_or fs q 0 → {o : Ordering} → o ≡ compared_at n fs ns key i j
+      → is_le o ≡ goes_first n fs ns key c q
   unfolding goes_first compared_at
-  first_kids h g ei ej eo ep = sym (rw (cmp_eq a b h g, ← ei, ← ej, ← eo, ep))
+  first_kids e ei ej eo = sym (rw (e, ← ei, ← ej, ← eo))
 
 -- ------------------------------------------------------------------ the place of a tree in a list
 -- the tree at c with k below it, the last brother p that goes before it, and the brothers from `at` on

@@ -5,6 +5,9 @@ use mathlib.Core.Bool.{Bool, true, false, cond}
 use Prim.Native.Nat.{ℕ, suc, ◌<◌}
 use native.Mathlib.Omega.{arith}
 use lib.ListN.{length, get_or}
+use Rattle.std.specs.Ordering.{ordering_then, is_le, nat_cmp}
+use Rattle.std.specs.declared.cmp.Ordering.{Ordering}
+use Rattle.std.specs.declared.cmp.Ordering.TheVariants.{Less, Equal, Greater}
 use Rattle.meaning.specs.Basics.{pick}
 use Rattle.meaning.specs.Tree.{Forest, bare, tree, Tag}
 use Rattle.meaning.specs.Number.{num}
@@ -12,9 +15,7 @@ use Rattle.meaning.specs.Image.{dec_l, lab_code, mark_code, flat, record_of, rec
 use Rattle.theory.proofs.Records.{Sorted, sorted_ordered}
 use Rattle.rows.specs.Rows.{map_t, width}
 use Rattle.rows.proofs.Rows.{width_map_t}
-use Rattle.order.specs.declared.sorting.Order.{Order}
-use Rattle.order.specs.declared.sorting.Order.TheVariants.{Before, Same, After}
-use Rattle.order.specs.Links.{then_by, cmp_n, cmp_f, cmp_t, up_to, place_by, ordered_by}
+use Rattle.order.specs.Links.{cmp_f, cmp_t, place_by, ordered_by}
 use Rattle.order.specs.Keys.{key_of}
 use Rattle.order.proofs.Comparing.{then_assoc, Three, three, lower, equal, upper, cmp_l, pick_cmp}
 use Rattle.order.proofs.Keys.{head_cmp, key_back}
@@ -57,8 +58,8 @@ module _ (key : List ℕ) (tag : ℕ → Tag) where
 
   -- two records with what follows them
   record_cmp : (i j : ℕ) (k l : Forest ℕ) (x y : List ℕ) → Keyed key tag i (width k) → Keyed key tag j (width l)
-      → (width k ≡ width l → cmp_l (W k ++ x) (W l ++ y) ≡ then_by (cmp_f key k l) (cmp_l x y))
-      → cmp_l (record_turn (tag i) (map_t tag k) ++ x) (record_turn (tag j) (map_t tag l) ++ y) ≡ then_by (cmp_t key i k j l) (cmp_l x y)
+      → (width k ≡ width l → cmp_l (W k ++ x) (W l ++ y) ≡ ordering_then (cmp_f key k l) (cmp_l x y))
+      → cmp_l (record_turn (tag i) (map_t tag k) ++ x) (record_turn (tag j) (map_t tag l) ++ y) ≡ ordering_then (cmp_t key i k j l) (cmp_l x y)
   record_cmp i j k l x y a b ih =
       rw (width_map_t tag k, width_map_t tag l) (simp append_assoc
       (head_cmp (lc i) (mc i) (width k) (lc j) (mc j) (width l) a.low (ml i) a.few b.low (ml j) b.few (W k ++ x) (W l ++ y) ∙ go (three K L)))
@@ -78,14 +79,14 @@ module _ (key : List ℕ) (tag : ℕ → Tag) where
       L : ℕ
       L = key_of (lc j) (mc j) (width l)
 
-      go : Three K L → then_by (cmp_n K L) (cmp_l (W k ++ x) (W l ++ y)) ≡ then_by (cmp_t key i k j l) (cmp_l x y)
+      go : Three K L → ordering_then (nat_cmp K L) (cmp_l (W k ++ x) (W l ++ y)) ≡ ordering_then (cmp_t key i k j l) (cmp_l x y)
       go (lower h e) = rw (a.is, b.is, e)
       go (upper h e) = rw (a.is, b.is, e)
       go (equal h e) = rw (a.is, b.is, e) (ih (key_back (lc i) (mc i) (width k) (lc j) (mc j) (width l) a.low (ml i) a.few b.low (ml j) b.few h))
 
   -- two lists of equally many brothers with what follows them
   forest_cmp : (F G : Forest ℕ) (x y : List ℕ) → Each (Keyed key tag) F → Each (Keyed key tag) G → width F ≡ width G
-      → cmp_l (W F ++ x) (W G ++ y) ≡ then_by (cmp_f key F G) (cmp_l x y)
+      → cmp_l (W F ++ x) (W G ++ y) ≡ ordering_then (cmp_f key F G) (cmp_l x y)
   unfolding map_t cmp_f
   forest_cmp bare bare x y kf kg e = refl
   forest_cmp bare (tree j l s) x y kf kg e = absurd (omega arith)
@@ -98,25 +99,25 @@ module _ (key : List ℕ) (tag : ℕ → Tag) where
   -- which of two brothers in image order goes first
   first_cmp : {A : Type 0} (i j : ℕ) (k l : Forest ℕ) (a b : A) → Each (Keyed key tag) (tree i k bare) → Each (Keyed key tag) (tree j l bare)
       → Sorted (map_t tag k) → Sorted (map_t tag l)
-      → pick (dec_l (record_of (tag i) (records (map_t tag k))) (record_of (tag j) (records (map_t tag l)))) a b ≡ cond (up_to (cmp_t key i k j l)) a b
+      → pick (dec_l (record_of (tag i) (records (map_t tag k))) (record_of (tag j) (records (map_t tag l)))) a b ≡ cond (is_le (cmp_t key i k j l)) a b
   first_cmp i j k l a b (ki, kk, ki') (kj, kl, kj') sk sl =
       pick_cmp (record_of (tag i) (records (map_t tag k))) (record_of (tag j) (records (map_t tag l))) a b
-      ∙ ap (λ (o : Order). cond (up_to o) a b)
+      ∙ ap (λ (o : Ordering). cond (is_le o) a b)
       ((λ v. cmp_l (record_turn_lem (tag i) (map_t tag k) sk v) (record_turn_lem (tag j) (map_t tag l) sl v))
       ∙ sym (λ v. cmp_l (append-nil (record_turn (tag i) (map_t tag k)) v) (append-nil (record_turn (tag j) (map_t tag l)) v))
       ∙ record_cmp i j k l [] [] ki kj (λ q. forest_cmp k l [] [] kk kl q) ∙ done (cmp_t key i k j l))
     where
-      done : (o : Order) → then_by o (cmp_l [] []) ≡ o
-      done Before = refl
-      done After = refl
-      done Same = unfold cmp_l in refl
+      done : (o : Ordering) → ordering_then o (cmp_l [] []) ≡ o
+      done Less = refl
+      done Greater = refl
+      done Equal = unfold cmp_l in refl
 
   place_by_lem : (i : ℕ) (k R : Forest ℕ) → Each (Keyed key tag) (tree i k R) → Sorted (map_t tag k) → Sorted (map_t tag R)
       → map_t tag (place_by key i k R) ≡ place (tag i) (map_t tag k) (map_t tag R)
   unfolding place_by map_t
   place_by_lem i k bare h sk sr = refl
   place_by_lem i k (tree j l r) (ki, kk, (kj, kl, kr)) sk (e, sl, sr) =
-      go (up_to (cmp_t key i k j l)) (place_by_lem i k r (ki, kk, kr) sk sr)
+      go (is_le (cmp_t key i k j l)) (place_by_lem i k r (ki, kk, kr) sk sr)
       ∙ sym (first_cmp i j k l (tree (tag i) (map_t tag k) (tree (tag j) (map_t tag l) (map_t tag r))) (tree (tag j) (map_t tag l) (place (tag i) (map_t tag k) (map_t tag r)))
       (ki, kk, tt) (kj, kl, tt) sk sl)
     where

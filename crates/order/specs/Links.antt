@@ -2,11 +2,12 @@
 -- `first`, for the top, which has no parent. A link that is not below n leads nowhere. Rows are compared by their keys, and brothers put in order by
 -- insertion, as `place` and `ordered` of Image do it by records.
 use Rattle.std.specs.Prelude.{◌≡◌, ◌⊎◌, List, Bool, true, false, cond, ℕ, zero, suc, ◌<◌, ◌≤◌, length, get_or, ltb}
+use Rattle.std.specs.Ordering.{ordering_then, is_le, nat_cmp}
+use Rattle.std.specs.declared.cmp.Ordering.{Ordering}
+use Rattle.std.specs.declared.cmp.Ordering.TheVariants.{Less, Equal, Greater}
 use Rattle.meaning.specs.Limits.{most_nodes}
 use Rattle.meaning.specs.Tree.{Forest, bare, tree, size}
 use Rattle.rows.specs.Rows.{width, no_row}
-use Rattle.order.specs.declared.sorting.Order.{Order}
-use Rattle.order.specs.declared.sorting.Order.TheVariants.{Before, Same, After}
 
 -- where the list of p's children starts
 abbrev pub slot_of : ℕ → ℕ → ℕ
@@ -52,37 +53,21 @@ pub record Listed (n : ℕ) (fs ns : List ℕ) : Type 0 where
   pub single : width (forest_at n fs ns (get_or fs n 0)) ≤ 1
 
 -- ------------------------------------------------------------------ comparing and ordering by keys
--- the first answer, or where it is Same the second one
-abbrev pub then_by : Order → Order → Order
-then_by Before o = Before
-then_by Same o = o
-then_by After o = After
-
--- two numbers
-abbrev pub cmp_n : ℕ → ℕ → Order
-cmp_n a b = cond (ltb a b) Before (cond (ltb b a) After Same)
-
 -- two lists of brothers: the first two keys, then what lies below the first two rows, then their later brothers
-unfoldable pub cmp_f : List ℕ → Forest ℕ → Forest ℕ → Order
-cmp_f key bare bare = Same
-cmp_f key bare (tree b j s) = Before
-cmp_f key (tree a k r) bare = After
-cmp_f key (tree a k r) (tree b j s) = then_by (cmp_n (get_or key a 0) (get_or key b 0)) (then_by (cmp_f key k j) (cmp_f key r s))
+unfoldable pub cmp_f : List ℕ → Forest ℕ → Forest ℕ → Ordering
+cmp_f key bare bare = Equal
+cmp_f key bare (tree b j s) = Less
+cmp_f key (tree a k r) bare = Greater
+cmp_f key (tree a k r) (tree b j s) = ordering_then (nat_cmp (get_or key a 0) (get_or key b 0)) (ordering_then (cmp_f key k j) (cmp_f key r s))
 
 -- the tree at a with the forest k below it against the tree at b with j below it
-abbrev pub cmp_t : List ℕ → ℕ → Forest ℕ → ℕ → Forest ℕ → Order
-cmp_t key a k b j = then_by (cmp_n (get_or key a 0) (get_or key b 0)) (cmp_f key k j)
-
--- before, or the same
-abbrev pub up_to : Order → Bool
-up_to Before = true
-up_to Same = true
-up_to After = false
+abbrev pub cmp_t : List ℕ → ℕ → Forest ℕ → ℕ → Forest ℕ → Ordering
+cmp_t key a k b j = ordering_then (nat_cmp (get_or key a 0) (get_or key b 0)) (cmp_f key k j)
 
 -- a tree among brothers that are in order
 unfoldable pub place_by : List ℕ → ℕ → Forest ℕ → Forest ℕ → Forest ℕ
 place_by key i k bare = tree i k bare
-place_by key i k (tree j l r) = cond (up_to (cmp_t key i k j l)) (tree i k (tree j l r)) (tree j l (place_by key i k r))
+place_by key i k (tree j l r) = cond (is_le (cmp_t key i k j l)) (tree i k (tree j l r)) (tree j l (place_by key i k r))
 
 -- the forest with all brothers in order
 unfoldable pub ordered_by : List ℕ → Forest ℕ → Forest ℕ
@@ -91,17 +76,17 @@ ordered_by key (tree i k r) = place_by key i (ordered_by key k) (ordered_by key 
 
 -- ------------------------------------------------------------------ what the functions owe
 -- the brothers from x on against those from y on
-unfoldable pub compared_at : ℕ → List ℕ → List ℕ → List ℕ → ℕ → ℕ → Order
+unfoldable pub compared_at : ℕ → List ℕ → List ℕ → List ℕ → ℕ → ℕ → Ordering
 compared_at n fs ns key x y = cmp_f key (forest_at n fs ns x) (forest_at n fs ns y)
 
 -- the tree at c goes before the tree at q or is equal to it
 unfoldable pub goes_first : ℕ → List ℕ → List ℕ → List ℕ → ℕ → ℕ → Bool
-goes_first n fs ns key c q = up_to (cmp_t key c (forest_at n fs ns (get_or fs c 0)) q (forest_at n fs ns (get_or fs q 0)))
+goes_first n fs ns key c q = is_le (cmp_t key c (forest_at n fs ns (get_or fs c 0)) q (forest_at n fs ns (get_or fs q 0)))
 
 -- the last tree of a list that goes before the tree at c with k below it; p where there is none
 unfoldable pub spot_of : List ℕ → ℕ → Forest ℕ → ℕ → Forest ℕ → ℕ
 spot_of key c k p bare = p
-spot_of key c k p (tree j l r) = cond (up_to (cmp_t key c k j l)) p (spot_of key c k j r)
+spot_of key c k p (tree j l r) = cond (is_le (cmp_t key c k j l)) p (spot_of key c k j r)
 
 -- the same of the list at q; n where there is none
 unfoldable pub spot_at : ℕ → List ℕ → List ℕ → List ℕ → ℕ → ℕ → ℕ

@@ -38,7 +38,8 @@ pub fn image_rows(table: Table<'_>, lists: &mut Lists, rows: &mut TreeRows)
     lay(table, lists, rows);
 }
 
-// The tree of a table whose rows stand in any order, as rows with brothers in the order of the table. The rest is as in `image_rows`.
+// The tree of a table whose rows stand in any order, as rows with brothers in the order of the table. The rest is as in `image_rows`. What differs is
+// one call in two, and its promise: a function that takes the step as a closure would be no shorter, and its clauses longer.
 pub fn tree_rows(table: Table<'_>, lists: &mut Lists, rows: &mut TreeRows)
     requires { IsTable table }
     ensures { IsTree rows.new × (tree_of rows.new ≡ tree_of_table table.entry) × (rows.new.len ≡ table.entry.n) }

@@ -10,20 +10,13 @@ use crate::Table;
 use crate::children::{Lists, slot};
 use crate::key::{Keys, key_of};
 use rows::{at, link};
-
-// How one record, or one list of records, stands to another in byte order.
-#[derive(Drop)]
-enum Order {
-    Before,
-    Same,
-    After,
-}
+use std::cmp::Ordering;
 
 impl Lists {
     // The brothers from x on against the brothers from y on: the first two, then their later brothers. Equal keys have equally many children, so two
     // lists that are compared end together, and records are compared byte by byte although none is written. Only children are compared by a call, so
     // at most one frame a level is open.
-    fn compare(&self, key: &Keys, n: usize, x: usize, y: usize) -> Order
+    fn compare(&self, key: &Keys, n: usize, x: usize, y: usize) -> Ordering
         requires { let Ends = Finite n self.now.first self.now.next in (n ≤ most_nodes) × Ends x × Ends y }
         ensures { result ≡ compared_at n self.now.first self.now.next key.now x y }
     {
@@ -31,30 +24,23 @@ impl Lists {
         let mut b = y;
         while a < n {
             if n <= b {
-                return Order::After;
+                return Ordering::Greater;
             }
-            let k = key[a];
-            let l = key[b];
-            if k < l {
-                return Order::Before;
-            }
-            if l < k {
-                return Order::After;
+            let o = key[a].cmp(&key[b]);
+            if o.is_ne() {
+                return o;
             }
             let o = self.compare(key, n, at(&self.first, a), at(&self.first, b));
-            match o {
-                Order::Before => return Order::Before,
-                Order::After => return Order::After,
-                Order::Same => {
-                    a = at(&self.next, a);
-                    b = at(&self.next, b);
-                }
+            if o.is_ne() {
+                return o;
             }
+            a = at(&self.next, a);
+            b = at(&self.next, b);
         }
         if b < n {
-            return Order::Before;
+            return Ordering::Less;
         }
-        Order::Same
+        Ordering::Equal
     }
 
     // Whether the record of the tree at c goes before that of the tree at q or is equal to it. Later brothers don't matter.
@@ -63,19 +49,12 @@ impl Lists {
             (n ≤ most_nodes) × (c < n) × (q < n) × Ends (get_or self.now.first c 0) × Ends (get_or self.now.first q 0) }
         ensures { result ≡ goes_first n self.now.first self.now.next key.now c q }
     {
-        let a = key[c];
-        let b = key[q];
-        if a < b {
-            return true;
-        }
-        if b < a {
-            return false;
-        }
-        let o = self.compare(key, n, at(&self.first, c), at(&self.first, q));
-        match o {
-            Order::Before => true,
-            Order::Same => true,
-            Order::After => false,
+        match key[c].cmp(&key[q]) {
+            Ordering::Less => true,
+            Ordering::Equal => self
+                .compare(key, n, at(&self.first, c), at(&self.first, q))
+                .is_le(),
+            Ordering::Greater => false,
         }
     }
 

@@ -1,10 +1,7 @@
 use borrow.Author.Rules.{rules}
 use mathlib.Core.Path.{◌∙◌}
-use Rattle.order.proofs.Gathering.{hangs, tree_read, listed_table}
+use Rattle.order.proofs.Gathering.{tree_read, listed_table}
 use Rattle.order.proofs.tree_rows.Goals as goal
-
-pub gather-requires : goal.gather-requires
-gather-requires c = hangs c.requires
 
 pub lay-requires : goal.lay-requires
 lay-requires c = (search rules, listed_table c.requires _ _ c.gather.ensures)

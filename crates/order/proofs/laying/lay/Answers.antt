@@ -32,21 +32,6 @@ loop-x-preserved-then-x-n c = laying_down c.loop-x.invariant c.if-x-n.true c.at-
 pub returns-then-u-eq-TOP : goal.returns-then-u-eq-TOP
 returns-then-u-eq-TOP c = let r = laid_rows c.loop-x.invariant c.if-x-n.false c.if-u-eq-TOP.true in (r.0, r.1, refl)
 
-pub at-x-requires-in-loop-x : goal.at-x-requires-in-loop-x
-at-x-requires-in-loop-x c =
-    let k = climbs c.loop-x.invariant c.if-x-n.false c.if-u-eq-TOP.false in
-    rw c.wide.ensures.0 (omega (arith, k.inside))
-
-pub overflow_add-k : goal.overflow_add-k
-overflow_add-k c =
-    let k = climbs c.loop-x.invariant c.if-x-n.false c.if-u-eq-TOP.false in
-    record { fits = k.short }
-
-pub loop-x-smaller : goal.loop-x-smaller
-loop-x-smaller c =
-    let k = climbs c.loop-x.invariant c.if-x-n.false c.if-u-eq-TOP.false in
-    rw c.wide-u.ensures.0 k.up_less
-
 pub loop-x-preserved : goal.loop-x-preserved
 loop-x-preserved c =
     let k = climbs c.loop-x.invariant c.if-x-n.false c.if-u-eq-TOP.false in
