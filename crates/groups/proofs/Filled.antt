@@ -1,12 +1,10 @@
--- Laws of a writer: two writings one after the other are one, a writing is told by the room's bytes and the length, the room's length stays, and what a
--- writer still owes is written part by part.
+-- Laws of a writer: two writings one after the other are one, the room's length stays, and what a writer still owes is written part by part.
 use mathlib.Core.Path.{◌≡◌, refl, sym, ap, ◌∙◌}
 use mathlib.Core.List.{List, [], ◌∷◌, ◌++◌}
 use Prim.Native.Nat.{ℕ, ◌+◌, ◌<◌}
 use native.Mathlib.Omega.{arith}
 use lib.ListN.{length, length-append}
 use Rattle.groups.specs.declared.Writer.{Writer}
-use Rattle.groups.specs.Put.{Written}
 use Rattle.groups.specs.Filled.{filled, Fits}
 use Rattle.groups.proofs.Put.{put_nil, put_append, length_put}
 
@@ -20,10 +18,6 @@ filled_then w xs ys =
 -- nothing written
 pub filled_nil : (w : Writer) → filled w [] ≡ w
 filled_nil w = let l : w.length + 0 ≡ w.length = omega arith in rw (put_nil w.room.now w.length, l) refl
-
--- what a writing leaves in the room
-pub filled_written : {w w' : Writer} {bs : List ℕ} → w' ≡ filled w bs → Written w.room.now w.length bs w'.room.now w'.length
-filled_written e = record { place = ap (λ x. x.length) e; bytes = ap (λ x. x.room.now) e }
 
 -- the room's length stays
 pub filled_room : (w : Writer) (bs : List ℕ) {w' : Writer} → w' ≡ filled w bs → length w'.room.now ≡ length w.room.now

@@ -46,7 +46,7 @@ pub fn number_length(x: u32) -> usize
     let mut rest = x;
     let mut bytes: usize = 1;
     while 128 <= rest {
-        rest = rest / 128;
+        rest /= 128;
         bytes += 1;
     }
     bytes

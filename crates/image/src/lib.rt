@@ -36,6 +36,7 @@ pub fn image_length(rows: &TreeRows) -> usize
     ensures { result ≡ length (listing_of rows.now) }
 {
     let mut bytes = groups::number_length(rows.len as u32);
+    // One index into three tables: a zip would first cut each of them to `len`.
     for u in 0..rows.len {
         bytes += head_length(rows.code[u], rows.mark[u], rows.kids[u]);
     }

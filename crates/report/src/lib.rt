@@ -39,6 +39,7 @@ fn put_bytes(w: &mut Writer<'_>, bytes: &[u8])
 }
 
 // Two digits a byte, the higher first.
+// By hand: crate hex writes into a slice of just twice the length, which would be cut out of the room first, and answers with a Result.
 fn put_hex(w: &mut Writer<'_>, bytes: &[u8])
     requires { Fits w.old (hex bytes.now) }
     ensures { w.new ≡ filled w.old (hex bytes.now) }
@@ -50,6 +51,7 @@ fn put_hex(w: &mut Writer<'_>, bytes: &[u8])
 }
 
 // The digits of the number's tenth, then its last one.
+// By hand: `write!` would want a fmt::Write of the writer, with a failure to rule out, and a law that its decimal is the one that is promised.
 fn put_decimal(w: &mut Writer<'_>, x: usize)
     requires { Fits w.old (decimal x) }
     ensures { w.new ≡ filled w.old (decimal x) }

@@ -6,8 +6,7 @@ use Rattle.image.proofs.image_length.Goals as goal
 
 pub loop-u-init : goal.loop-u-init
 loop-u-init c =
-    let r = c.args.rows.now in
-    (
+    let r = c.args.rows.now in (
       omega arith,
       omega (arith, num_five r.len),
       omega (arith, simp length-append at (ap length (listing_left r.code r.mark r.kids r.len))),
@@ -15,8 +14,7 @@ loop-u-init c =
 
 pub loop-u-preserved : goal.loop-u-preserved
 loop-u-preserved c =
-    let r = c.args.rows.now in
-    (
+    let r = c.args.rows.now in (
       omega arith,
       omega arith,
       omega (arith, simp length-append at (ap length (left_next r.code r.mark r.kids r.len _ c.loop-u-test.true))),
