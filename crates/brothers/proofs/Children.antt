@@ -1,7 +1,7 @@
 -- "Of two different brothers where one folds onto the other, the folding one goes, with all below it" (01, Folding), among the children of one row.
 -- When a child goes, what is left below the other children does not change, so what did not fold before does not fold after, and the search goes on.
 use mathlib.Core.Path.{◌≡◌, refl, sym, ap, ◌∙◌}
-use mathlib.Core.Logic.{◌⊎◌, inl, inr}
+use mathlib.Core.Logic.{inl, inr, ⊎_elim}
 use mathlib.Core.Bool.{Bool, true, false}
 use mathlib.Core.List.{List}
 use Prim.Native.Nat.{ℕ, suc, ◌+◌, ◌≤◌, ◌<◌}
@@ -21,7 +21,7 @@ use Rattle.onto.specs.Onto.{OntoRow, Stands}
 use Rattle.onto.proofs.Brothers.{brother_range, brother_opens, brother_apart}
 use Rattle.onto.proofs.Left.{not_both, left_bare, left_here, left_away, left_ind, any_of_row, row_of_any}
 use Rattle.onto.proofs.Onto.{stands_opens}
-use Rattle.brothers.specs.Brothers.{Child, Listed, Foldable, Searchable, NoneFrom, Loses, TakenOut, NoneFold, Goes, Only, ChildrenFolded}
+use Rattle.brothers.specs.Brothers.{Child, Listed, Foldable, Searchable, NoneFrom, Loses, TakenOut, NoneFold, Only, ChildrenFolded}
 use Rattle.brothers.proofs.Listing.{Whence, stood, lists_less}
 
 onto_same : {a a' b b' : Tag} {k k' j j' : Forest Tag} → a ≡ a' → k ≡ k' → b ≡ b' → j ≡ j' → Onto a k b j → Onto a' k' b' j'
@@ -56,21 +56,14 @@ left_same t mark' u e (tree i k r) h f =
 
 module _ (t : Nodes) {p : ℕ} {mark' : List ℕ} (only : Only t.mark t.span p mark') where
   pub only_tag : (i : ℕ) → tag_of (marked t mark') i ≡ tag_of t i
-  only_tag i = go (only i)
-    where
-      go : (get_or mark' i 0 ≡ get_or t.mark i 0) ⊎ Goes t.mark t.span p mark' i → tag_of (marked t mark') i ≡ tag_of t i
-      go (inl e) = same_tag t.code t.mark mark' i e
-      go (inr g) = gone_tag t.code t.mark mark' i g.gone
+  only_tag i = ⊎_elim (same_tag t.code t.mark mark' i) (λ g. gone_tag t.code t.mark mark' i g.gone) (only i)
 
   -- below a row behind p nothing changes: no child of p lies there
   pub below_same : {x e : ℕ} → Opens t.span x e → p < x → Holds t.span (suc p) (p + get_or t.span p 0) (below t.span p)
       → left_below (marked t mark') x ≡ left_below t x
-  below_same {x} o l h = left_same t mark' (suc x) (x + get_or t.span x 0) (below t.span x) o.held (λ i a b. go i a b (only i))
-    where
-      go : (i : ℕ) → suc x ≤ i → i < x + get_or t.span x 0 → (get_or mark' i 0 ≡ get_or t.mark i 0) ⊎ Goes t.mark t.span p mark' i
-          → get_or mark' i 0 ≡ get_or t.mark i 0
-      go i a b (inl s) = s
-      go i a b (inr g) = absurd (brother_apart t.span _ _ (below t.span p) h i g.child x (omega arith) (omega arith) b)
+  below_same {x} o l h =
+      left_same t mark' (suc x) (x + get_or t.span x 0) (below t.span x) o.held
+      (λ i a b. ⊎_elim (λ s. s) (λ g. absurd (brother_apart t.span _ _ (below t.span p) h i g.child x (omega arith) (omega arith) b)) (only i))
 
 -- ------------------------------------------------------------------ one child goes
 pub loses : (mark : List ℕ) (a v : ℕ) → a < length mark → Gone (get_or mark a 0) v → Loses mark a (set mark a v)
@@ -81,13 +74,9 @@ loses mark a v l g = record {
 }
 
 only_trans : (span : List ℕ) (p : ℕ) (f g h : List ℕ) → Only f span p g → Only g span p h → Only f span p h
-only_trans span p f g h x y j = go (x j) (y j)
-  where
-    go : (get_or g j 0 ≡ get_or f j 0) ⊎ Goes f span p g j → (get_or h j 0 ≡ get_or g j 0) ⊎ Goes g span p h j → (get_or h j 0 ≡ get_or f j 0) ⊎ Goes f span p h j
-    go (inl a) (inl b) = inl (b ∙ a)
-    go (inl a) (inr w) = inr (record { child = w.child; gone = rw a at w.gone })
-    go (inr w) (inl b) = inr (record { child = w.child; gone = rw (sym b) at w.gone })
-    go (inr w) (inr v) = inr (record { child = w.child; gone = gone_both w.gone v.gone })
+only_trans span p f g h x y j =
+    ⊎_elim (λ a. ⊎_elim (λ b. inl (b ∙ a)) (λ w. inr (record { child = w.child; gone = rw a at w.gone })) (y j))
+    (λ w. inr (record { child = w.child; gone = ⊎_elim (λ b. rw (sym b) at w.gone) (λ v. gone_both w.gone v.gone) (y j) })) (x j)
 
 module _ {t : Nodes} {p a : ℕ} (S : Stands t p) (C : Child t.mark t.span p a) {mark' : List ℕ}
     (G : Loses t.mark a mark') where
@@ -95,11 +84,10 @@ module _ {t : Nodes} {p a : ℕ} (S : Stands t p) (C : Child t.mark t.span p a) 
   t' = marked t mark'
 
   goes_only : Only t.mark t.span p mark'
-  goes_only j = go (ℕ_discrete j a)
-    where
-      go : Dec (j ≡ a) → (get_or mark' j 0 ≡ get_or t.mark j 0) ⊎ Goes t.mark t.span p mark' j
-      go (yes e) = rw e (inr (record { child = C.brother; gone = G.gone }))
-      go (no n) = inl (G.other j n)
+  goes_only j = elim (ℕ_discrete j a) [
+    | yes e ↦ rw e (inr (record { child = C.brother; gone = G.gone }))
+    | no n ↦ inl (G.other j n)
+  ]
 
   -- another row is there afterwards where it was there before
   stays : (x : ℕ) → ¬ (x ≡ a) → gone_at mark' x ≡ gone_at t.mark x
@@ -107,11 +95,7 @@ module _ {t : Nodes} {p a : ℕ} (S : Stands t p) (C : Child t.mark t.span p a) 
 
   -- a row that is there afterwards is another one, and was there
   was : (x : ℕ) → gone_at mark' x ≡ false → (¬ (x ≡ a)) × (gone_at t.mark x ≡ false)
-  was x e = go (ℕ_discrete x a)
-    where
-      go : Dec (x ≡ a) → (¬ (x ≡ a)) × (gone_at t.mark x ≡ false)
-      go (yes q) = not_both G.gone.away (rw q at e)
-      go (no n) = (n, sym (stays x n) ∙ e)
+  was x e = elim (ℕ_discrete x a) [ yes q ↦ not_both G.gone.away (rw q at e) | no n ↦ (n, sym (stays x n) ∙ e) ]
 
   same : (x : ℕ) → Brother x (below t.span p) → left_below t' x ≡ left_below t x
   same x s =
@@ -123,23 +107,15 @@ module _ {t : Nodes} {p a : ℕ} (S : Stands t p) (C : Child t.mark t.span p a) 
   goes_pruned h y =
       left_ind t (λ F M. Pruned h M (left t' F)) (suc p) (p + get_or t.span p 0) (rw (left_bare t') end)
       (λ i r l o g m. (
-        λ d. here i r l o m d (ℕ_discrete i a),
-        λ d. rw (left_away t' i (below t.span i) r (away i d (ℕ_discrete i a))) m,
+        λ d. elim (ℕ_discrete i a) [
+          | yes e ↦
+              let y' : Any (Onto (tag_of t i) (left_below t i)) h = rw e y in rw (left_away t' i (below t.span i) r (rw e G.gone.away)) (gone y' m)
+          | no n ↦
+              rw (left_here t' i (below t.span i) r (stays i n ∙ d), only_tag t goes_only i, below_same t goes_only o l S.held)
+              (kept (pruned_refl (left_below t i) (left_below t i)) m)
+        ],
+        λ d. rw (left_away t' i (below t.span i) r (elim (ℕ_discrete i a) [ yes e ↦ rw e G.gone.away | no n ↦ stays i n ∙ d ])) m,
       )) (below t.span p) S.held
-    where
-      away : (i : ℕ) → gone_at t.mark i ≡ true → Dec (i ≡ a) → gone_at mark' i ≡ true
-      away i d (yes e) = rw e G.gone.away
-      away i d (no n) = stays i n ∙ d
-
-      here : (i : ℕ) (r : Forest ℕ) → suc p ≤ i → Opens t.span i (p + get_or t.span p 0) → Pruned h (left t r) (left t' r)
-          → gone_at t.mark i ≡ false → Dec (i ≡ a)
-          → Pruned h (tree (tag_of t i) (left_below t i) (left t r)) (left t' (tree i (below t.span i) r))
-      here i r l o m d (yes e) =
-          let y' : Any (Onto (tag_of t i) (left_below t i)) h = rw e y in
-          rw (left_away t' i (below t.span i) r (rw e G.gone.away)) (gone y' m)
-      here i r l o m d (no n) =
-          rw (left_here t' i (below t.span i) r (stays i n ∙ d), only_tag t goes_only i, below_same t goes_only o l S.held)
-          (kept (pruned_refl (left_below t i) (left_below t i)) m)
 
   -- a folds onto another child b: with a or without it the children fold onto each other
   goes_equal : (b : ℕ) → Child t.mark t.span p b → ¬ (a ≡ b) → OntoRow t a t b → Equal (left_below t p) (left_below t' p)
@@ -163,11 +139,7 @@ abbrev pub Clear : Nodes → List ℕ → ℕ → ℕ → Type 0
 Clear t child k i = (x : ℕ) → x < i → ¬ Foldable t child k x
 
 pub clear_on : (t : Nodes) (child : List ℕ) (k i r : ℕ) → Clear t child k i → NoneFrom t child i k r → Clear t child k r
-clear_on t child k i r A F x l f = go (dec_lt x i)
-  where
-    go : Dec (x < i) → ⊥
-    go (yes m) = A x m f
-    go (no m) = F x l (omega arith) f
+clear_on t child k i r A F x l f = elim (dec_lt x i) [ yes m ↦ A x m f | no m ↦ F x l (omega arith) f ]
 
 -- no two brothers fold, if no row of one that is still there folds onto the row of another
 module _ (t : Nodes) where

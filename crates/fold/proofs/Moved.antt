@@ -1,9 +1,9 @@
 -- The rows that are still there, put to the front in their order. A walk over the rows that steps over what has gone meets the nodes of the tree that is
 -- left, from the top on; each goes to the next place, and its parent, which went before it, is named by its new place.
 use mathlib.Core.Path.{◌≡◌, refl, sym, ap, ◌∙◌}
-use mathlib.Core.Logic.{◌⊎◌, inl, inr}
+use mathlib.Core.Logic.{◌⊎◌, inl, inr, ⊎_elim}
 use mathlib.Core.List.{List, [], ◌∷◌, ◌++◌, append_assoc, append-nil}
-use mathlib.Core.Bool.{Bool, true, false, cond}
+use mathlib.Core.Bool.{true, false, cond}
 use Prim.Native.Nat.{ℕ, suc, ◌+◌, ◌≤◌, ◌<◌}
 use native.Mathlib.Omega.{arith}
 use native.Mathlib.Numerals.{add-one}
@@ -12,13 +12,12 @@ use lib.ListN.{length, get_or, set, drop, length-set, length-append, length-drop
 use lib.Seq.{get_or-set_same, get_or-set_other, get_or_at, drop-cons}
 use lib.Dec.{eqb}
 use borrow.Author.Tests.{eq-eqb, ne_eqb}
-use Rattle.meaning.specs.Limits.{most_nodes}
 use Rattle.meaning.specs.Tree.{Forest, bare, tree, size}
 use Rattle.rows.specs.Rows.{tag_at, shape, map_t, tree_rows, Holds, width, Counted, Hung, no_row}
 use Rattle.rows.specs.declared.TreeRows.{TreeRows}
 use Rattle.rows.proofs.Rows.{size_map_t, width_map_t, size_holds, holds_is, row_opens, rows_top, row_up}
-use Rattle.onto.specs.Left.{gone_at, Gone, kept, left}
-use Rattle.onto.proofs.Left.{not_both, kept_bare, kept_here, kept_away}
+use Rattle.onto.specs.Left.{gone_at, kept, left}
+use Rattle.onto.proofs.Left.{not_both, kept_ind}
 use Rattle.fold.specs.Kept.{Remains, parent_moved, Movable, RowMoved, RowsKept, SameShape}
 
 -- ------------------------------------------------------------------ the nodes of a forest in image order
@@ -88,23 +87,22 @@ module _ {mark span : List ℕ} {n : ℕ} where
   walk_stop (take l d w) m = absurd (omega arith)
 
 -- it meets the nodes that are left, in their order
-walk_nodes : (mark span : List ℕ) (n u e : ℕ) (F : Forest ℕ) (xs : List ℕ) → Holds span u e F → e ≤ n → Walk mark span n e xs
+walk_nodes : (mark span : List ℕ) (n : ℕ) (F : Forest ℕ) (u e : ℕ) (xs : List ℕ) → Holds span u e F → e ≤ n → Walk mark span n e xs
     → Walk mark span n u (rows_of (kept mark F) ++ xs)
-walk_nodes mark span n u e bare xs h l w = rw (kept_bare mark, h) w
-walk_nodes mark span n u e (tree i k r) xs h l w =
-    let s = size_holds span (suc i + size k) e r h.3 in
-    rw h.0 (go (gone_at mark i) refl (omega arith) (walk_nodes mark span n (suc i + size k) e r xs h.3 l w)
-    (λ ys y. walk_nodes mark span n (suc i) (suc i + size k) k ys h.2 (omega arith) y))
-  where
-    go : (b : Bool) → gone_at mark i ≡ b → i < n → Walk mark span n (suc i + size k) (rows_of (kept mark r) ++ xs)
-        → ((ys : List ℕ) → Walk mark span n (suc i + size k) ys → Walk mark span n (suc i) (rows_of (kept mark k) ++ ys))
-        → Walk mark span n i (rows_of (kept mark (tree i k r)) ++ xs)
-    go false d m x f =
-        rw (kept_here mark i k r d, append_assoc (rows_of (kept mark k)) (rows_of (kept mark r)) xs) (take m d (f (rows_of (kept mark r) ++ xs) x))
-    go true d m x f =
-        let z : i + get_or span i 0 ≡ suc i + size k = omega (arith, h.1) in
-        let x' : Walk mark span n (i + get_or span i 0) (rows_of (kept mark r) ++ xs) = rw z x in
-        rw (kept_away mark i k r d) (skip m d x')
+walk_nodes mark span n =
+    kept_ind mark (λ F K. (u e : ℕ) (xs : List ℕ) → Holds span u e F → e ≤ n → Walk mark span n e xs → Walk mark span n u (rows_of K ++ xs))
+    (λ u e xs h l w. rw h w)
+    (λ i k r x y. (
+      λ d u e xs h l w.
+          let s = size_holds span (suc i + size k) e r h.3 in
+          rw (h.0, append_assoc (rows_of (kept mark k)) (rows_of (kept mark r)) xs)
+          (take {i = i} (omega arith) d (x (suc i) (suc i + size k) _ h.2 (omega arith) (y (suc i + size k) e xs h.3 l w))),
+      λ d u e xs h l w.
+          let s = size_holds span (suc i + size k) e r h.3 in
+          let z : i + get_or span i 0 ≡ suc i + size k = omega (arith, h.1) in
+          let w' : Walk mark span n (i + get_or span i 0) (rows_of (kept mark r) ++ xs) = rw z (y (suc i + size k) e xs h.3 l w) in
+          rw h.0 (skip {i = i} (omega arith) d w'),
+    ))
 
 -- ------------------------------------------------------------------ a row and its place
 -- row x, one of the first i, is at place t
@@ -194,25 +192,20 @@ module _ {code₀ mark₀ span up : List ℕ} {n : ℕ} (R : Remains code₀ mar
   F = kept mark₀ (shape span n)
 
   parent_before : (i : ℕ) → i < n → (get_or up i 0 ≡ no_row) ⊎ (get_or up i 0 < i)
-  parent_before i l = go (ℕ_discrete i 0)
-    where
-      go : Dec (i ≡ 0) → (get_or up i 0 ≡ no_row) ⊎ (get_or up i 0 < i)
-      go (yes z) = inl (rw z (rows_top code₀ R.was R.kids span up n R.rows (omega arith)).up_none)
-      go (no z) = inr (row_up code₀ R.was R.kids span up n R.rows i (omega arith) l).0
+  parent_before i l = elim (ℕ_discrete i 0) [
+    | yes z ↦ inl (rw z (rows_top code₀ R.was R.kids span up n R.rows (omega arith)).up_none)
+    | no z ↦ inr (row_up code₀ R.was R.kids span up n R.rows i (omega arith) l).0
+  ]
 
   -- a row that is there bears the mark that it bore
   mark_was : (x : ℕ) → gone_at mark₀ x ≡ false → get_or mark₀ x 0 ≡ get_or R.was x 0
-  mark_was x d = go (R.only x)
-    where
-      go : (get_or mark₀ x 0 ≡ get_or R.was x 0) ⊎ ((0 < x) × (x < n) × Gone (get_or R.was x 0) (get_or mark₀ x 0)) → get_or mark₀ x 0 ≡ get_or R.was x 0
-      go (inl e) = e
-      go (inr g) = not_both g.2.away d
+  mark_was x d = ⊎_elim (λ e. e) (λ g. not_both g.2.away d) (R.only x)
 
   pub moving_none : (parent moved : List ℕ) → Moving code₀ mark₀ span up n code₀ mark₀ parent moved 0 0
   moving_none parent moved =
       record {
         walk =
-            rw append-nil at (walk_nodes mark₀ span n 0 n (shape span n) [] R.rows.laid (omega arith) (stop (omega arith)));
+            rw append-nil at (walk_nodes mark₀ span n (shape span n) 0 n [] R.rows.laid (omega arith) (stop (omega arith)));
         count = omega arith;
         until = omega arith;
         room = omega arith;
@@ -242,11 +235,8 @@ module _ {code₀ mark₀ span up : List ℕ} {n : ℕ} (R : Remains code₀ mar
 
     -- row i is put at place j
     pub moving_fits : i < n → Movable up i j
-    moving_fits l = record { front = M.room; few = omega (arith, R.rows.few); above = go (parent_before i l) }
-      where
-        go : (get_or up i 0 ≡ no_row) ⊎ (get_or up i 0 < i) → (get_or up i 0 ≡ no_row) ⊎ (get_or up i 0 < most_nodes)
-        go (inl e) = inl e
-        go (inr b) = inr (omega (arith, R.rows.few))
+    moving_fits l =
+        let f = R.rows.few in record { front = M.room; few = omega arith; above = ⊎_elim inl (λ b. inr (omega arith)) (parent_before i l) }
 
     pub moving_take : i < n → gone_at mark i ≡ false → n ≤ length parent → n ≤ length moved → {code' mark' parent' moved' : List ℕ}
         → RowMoved code mark up i parent moved j code' mark' parent' moved' → Moving code₀ mark₀ span up n code' mark' parent' moved' (i + 1) (j + 1)
@@ -263,7 +253,14 @@ module _ {code₀ mark₀ span up : List ℕ} {n : ℕ} (R : Remains code₀ mar
           count = omega arith;
           until = omega arith;
           room = omega arith;
-          facts = λ t m. fact t m x (dec_lt t j);
+          facts = λ t m. elim (dec_lt t j) [
+            | yes b ↦ fact_kept P b (M.facts t b)
+            | no b ↦
+                let a = M.ahead i (omega arith) in
+                let q : t ≡ j = omega arith in
+                rw (q, x) (fact_new P (rw a.1 at g) (omega (arith, M.codes, R.rows.codes)) (omega (arith, M.marks, R.rows.marks, R.long)) (omega arith)
+                (omega arith) a.0 a.1 (parent_before i l))
+          ];
           ahead = λ x m. (
             rw P.codes (get_or-set_other code j x (get_or code i 0) 0 (λ e. omega arith) ∙ (M.ahead x (omega arith)).0),
             rw P.marks (get_or-set_other mark j x (get_or mark i 0) 0 (λ e. omega arith) ∙ (M.ahead x (omega arith)).1),
@@ -271,33 +268,14 @@ module _ {code₀ mark₀ span up : List ℕ} {n : ℕ} (R : Remains code₀ mar
           codes = rw P.codes (length-set code j (get_or code i 0) ∙ M.codes);
           marks = rw P.marks (length-set mark j (get_or mark i 0) ∙ M.marks);
         }
-      where
-        fact : (t : ℕ) → t < j + 1 → get_or (rows_of F) j 0 ≡ i → Dec (t < j)
-            → Fact code₀ mark₀ up code' mark' parent' moved' (i + 1) t (get_or (rows_of F) t 0)
-        fact t m x (yes b) = fact_kept P b (M.facts t b)
-        fact t m x (no b) =
-            let a = M.ahead i (omega arith) in
-            let q : t ≡ j = omega arith in
-            let r = M.room in
-            rw (q, x) (fact_new P (rw a.1 at g) (omega (arith, M.codes, R.rows.codes)) (omega (arith, M.marks, R.rows.marks, R.long)) (omega arith) (omega arith)
-            a.0 a.1 (parent_before i l))
 
 -- ------------------------------------------------------------------ the new rows
-hung_kept : (mark up : List ℕ) (p : ℕ) (F : Forest ℕ) → Hung up p F → Hung up p (kept mark F)
-hung_kept mark up p bare h = rw (kept_bare mark) tt
-hung_kept mark up p (tree i k r) h = go (gone_at mark i) refl (hung_kept mark up i k h.1) (hung_kept mark up p r h.2)
-  where
-    go : (b : Bool) → gone_at mark i ≡ b → Hung up i (kept mark k) → Hung up p (kept mark r) → Hung up p (kept mark (tree i k r))
-    go false e x y = rw (kept_here mark i k r e) (h.0, x, y)
-    go true e x y = rw (kept_away mark i k r e) y
+hung_kept : (mark up : List ℕ) (F : Forest ℕ) (p : ℕ) → Hung up p F → Hung up p (kept mark F)
+hung_kept mark up =
+    kept_ind mark (λ F K. (p : ℕ) → Hung up p F → Hung up p K) (λ p h. tt) (λ i k r x y. (λ d p h. (h.0, x i h.1, y p h.2), λ d p h. y p h.2))
 
 width_kept : (mark : List ℕ) (F : Forest ℕ) → width (kept mark F) ≤ width F
-width_kept mark bare = rw (kept_bare mark) (omega arith)
-width_kept mark (tree i k r) = go (gone_at mark i) refl (width_kept mark r)
-  where
-    go : (b : Bool) → gone_at mark i ≡ b → width (kept mark r) ≤ width r → width (kept mark (tree i k r)) ≤ suc (width r)
-    go false e y = rw (kept_here mark i k r e) (omega arith)
-    go true e y = rw (kept_away mark i k r e) (omega arith)
+width_kept mark = kept_ind mark (λ F K. width K ≤ width F) (omega arith) (λ i k r x y. (λ d. omega arith, λ d. omega arith))
 
 module _ {code₀ mark₀ span up : List ℕ} {n : ℕ} (R : Remains code₀ mark₀ span up n) {code mark parent moved : List ℕ} {i j : ℕ}
     (M : Moving code₀ mark₀ span up n code mark parent moved i j) (l : n ≤ i) (lp : n ≤ length parent) where
@@ -347,7 +325,7 @@ module _ {code₀ mark₀ span up : List ℕ} {n : ℕ} (R : Remains code₀ mar
   all_moved : Moved no_row 0 j K
   all_moved =
       rows_moved no_row no_row 0 j K (spread_nodes K K 0 (λ f. []) (λ f. []) (λ f. (sym (append-nil (values f K)), refl)))
-      (hung_kept mark₀ up no_row (shape span n) R.rows.hung) refl (omega (arith, size_is))
+      (hung_kept mark₀ up (shape span n) no_row R.rows.hung) refl (omega (arith, size_is))
 
   shape_is : shape spans j ≡ map_t to K
   unfolding shape

@@ -1,7 +1,7 @@
 -- "Folding stops when no two brothers anywhere in the tree are left that fold" (01, Folding): the rows from the last to the first, each row's children
 -- folded to the end. What is left is the minimal tree up to the order of brothers.
 use mathlib.Core.Path.{◌≡◌, refl, sym, subst, ◌∙◌}
-use mathlib.Core.Logic.{◌⊎◌, inl, inr}
+use mathlib.Core.Logic.{◌⊎◌, inl, inr, ⊎_elim}
 use mathlib.Core.Bool.{Bool, true, false}
 use mathlib.Core.List.{List}
 use Prim.Native.Nat.{ℕ, ◌+◌, ◌/◌, ◌%◌, ◌^◌, ◌≤◌, ◌<◌}
@@ -20,7 +20,7 @@ use Rattle.onto.specs.Left.{Nodes, marked, tag_of, gone_bit, gone_at, Gone, Brot
 use Rattle.onto.specs.Onto.{Stands}
 use Rattle.onto.proofs.Brothers.{brother_range, brother_apart}
 use Rattle.onto.proofs.Left.{not_both, left_bare, left_here, left_away, left_ind}
-use Rattle.brothers.specs.Brothers.{Goes, NoneFold, ChildrenFolded}
+use Rattle.brothers.specs.Brothers.{NoneFold, ChildrenFolded}
 use Rattle.brothers.proofs.Children.{gone_tag, same_tag, gone_both, below_same}
 use Rattle.fold.specs.Kept.{Whole, RowsFolded}
 
@@ -92,19 +92,11 @@ module _ {t : Nodes} {n : ℕ} (R : Whole t.mark t.span n) {b : ℕ} {mark' : Li
 
   -- rows bear what they bore
   settled_tag : (i : ℕ) → tag_of (marked t mark') i ≡ tag_of t i
-  settled_tag i = go (T.only i)
-    where
-      go : (get_or mark' i 0 ≡ get_or t.mark i 0) ⊎ Went t.mark t.span n b mark' i → tag_of (marked t mark') i ≡ tag_of t i
-      go (inl e) = same_tag t.code t.mark mark' i e
-      go (inr w) = gone_tag t.code t.mark mark' i w.gone
+  settled_tag i = ⊎_elim (same_tag t.code t.mark mark' i) (λ w. gone_tag t.code t.mark mark' i w.gone) (T.only i)
 
   -- a row that no such row has for its child is there
   stays : (c : ℕ) → c < n → (Went t.mark t.span n b mark' c → ⊥) → gone_at mark' c ≡ false
-  stays c l f = go (T.only c)
-    where
-      go : (get_or mark' c 0 ≡ get_or t.mark c 0) ⊎ Went t.mark t.span n b mark' c → gone_at mark' c ≡ false
-      go (inl e) = rw e (R.there c l)
-      go (inr w) = absurd (f w)
+  stays c l f = ⊎_elim (λ e. rw e (R.there c l)) (λ w. absurd (f w)) (T.only c)
 
 module _ {t : Nodes} {n : ℕ} (R : Whole t.mark t.span n) {mark' : List ℕ} where
   pub settled_all : Settled t n 0 mark' → RowsFolded t n mark'
@@ -120,14 +112,9 @@ module _ {t : Nodes} {n : ℕ} (R : Whole t.mark t.span n) {mark' : List ℕ} wh
             (λ c s. stays R T c (brother_range t.span 0 n (shape t.span n) R.laid c s).1
             (λ w. omega (arith, w.lower, top_brother t.span n (shape t.span n) R.laid R.single c s)))
             (λ c s. T.equal c (omega arith) (brother_range t.span 0 n (shape t.span n) R.laid c s).1)));
-        only = λ j. out j (T.only j);
+        only = λ j. ⊎_elim inl (λ w. inr (w.lower, w.inside, w.gone)) (T.only j);
         long = T.long;
       }
-    where
-      out : (j : ℕ) → (get_or mark' j 0 ≡ get_or t.mark j 0) ⊎ Went t.mark t.span n 0 mark' j
-          → (get_or mark' j 0 ≡ get_or t.mark j 0) ⊎ ((0 < j) × (j < n) × Gone (get_or t.mark j 0) (get_or mark' j 0))
-      out j (inl e) = inl e
-      out j (inr w) = inr (w.lower, w.inside, w.gone)
 
 -- the children of row p are folded to the end, those of the rows behind it were before
 module _ {t : Nodes} {n : ℕ} (R : Whole t.mark t.span n) {p : ℕ} {mark₁ mark' : List ℕ} (T : Settled t n (p + 1) mark₁)
@@ -168,9 +155,12 @@ module _ {t : Nodes} {n : ℕ} (R : Whole t.mark t.span n) {p : ℕ} {mark₁ ma
       record {
         until = omega (arith, T.until);
         long = C.long ∙ T.long;
-        only = λ j. only j (C.only j) (T.only j);
-        equal = λ q l m. equal q l m (ℕ_discrete p q);
-        reduced = λ q l m. reduced q l m (ℕ_discrete p q);
+        only = λ j. elim (C.only j) [
+          | inl e ↦ elim (T.only j) [ inl f ↦ inl (e ∙ f) | inr w ↦ inr (before j w (rw (sym e) at w.gone)) ]
+          | inr g ↦ inr (went j g.child (elim (T.only j) [ inl f ↦ rw f at g.gone | inr w ↦ gone_both w.gone g.gone ]))
+        ];
+        equal = λ q l m. elim (ℕ_discrete p q) [ yes e ↦ rw (← e) equal_p | no d ↦ rw (behind q (omega arith) m) (T.equal q (omega arith) m) ];
+        reduced = λ q l m. elim (ℕ_discrete p q) [ yes e ↦ rw (← e) reduced_p | no d ↦ rw (behind q (omega arith) m) (T.reduced q (omega arith) m) ];
       }
     where
       went : (j : ℕ) → Brother j P → Gone (get_or t.mark j 0) (get_or mark' j 0) → Went t.mark t.span n p mark' j
@@ -178,30 +168,8 @@ module _ {t : Nodes} {n : ℕ} (R : Whole t.mark t.span n) {p : ℕ} {mark₁ ma
           let z = inside j s in
           record { lower = omega (arith, z.0); inside = z.1; gone = g; parent = p; from = omega arith; row = omega (arith, T.until); child = s }
 
-      only : (j : ℕ) → (get_or mark' j 0 ≡ get_or mark₁ j 0) ⊎ Goes mark₁ t.span p mark' j
-          → (get_or mark₁ j 0 ≡ get_or t.mark j 0) ⊎ Went t.mark t.span n (p + 1) mark₁ j
-          → (get_or mark' j 0 ≡ get_or t.mark j 0) ⊎ Went t.mark t.span n p mark' j
-      only j (inl e) (inl f) = inl (e ∙ f)
-      only j (inl e) (inr w) =
-          inr (record {
-            lower = w.lower;
-            inside = w.inside;
-            gone = rw (sym e) at w.gone;
-            parent = w.parent;
-            from = omega (arith, w.from);
-            row = w.row;
-            child = w.child;
-          })
-      only j (inr g) (inl f) = inr (went j g.child (rw f at g.gone))
-      only j (inr g) (inr w) = inr (went j g.child (gone_both w.gone g.gone))
-
-      equal : (q : ℕ) → p ≤ q → q < n → Dec (p ≡ q) → Equal (map_t (tag_of t) (below t.span q)) (left_below (marked t mark') q)
-      equal q l m (yes e) = rw (← e) equal_p
-      equal q l m (no d) = rw (behind q (omega arith) m) (T.equal q (omega arith) m)
-
-      reduced : (q : ℕ) → p ≤ q → q < n → Dec (p ≡ q) → Reduced (left_below (marked t mark') q)
-      reduced q l m (yes e) = rw (← e) reduced_p
-      reduced q l m (no d) = rw (behind q (omega arith) m) (T.reduced q (omega arith) m)
+      before : (j : ℕ) → Went t.mark t.span n (p + 1) mark₁ j → Gone (get_or t.mark j 0) (get_or mark' j 0) → Went t.mark t.span n p mark' j
+      before j w g = record { lower = w.lower; inside = w.inside; gone = g; parent = w.parent; from = omega (arith, w.from); row = w.row; child = w.child }
 
 -- ------------------------------------------------------------------ rows in image order
 -- no mark of a tree says that its row has gone

@@ -23,6 +23,7 @@ pub fn fold_rows(t: &mut TreeRows, child: &mut Starts)
 }
 
 // The new number of row i's parent.
+#[tactic(auto, using(crate::proofs::Moved::parent_top, crate::proofs::Moved::parent_row))]
 fn parent_moved(up: &Links, moved: &Links, i: usize) -> u16
     requires { (i < most_nodes) × ((get_or up.now i 0 ≡ no_row) ⊎ (get_or up.now i 0 < most_nodes)) }
     ensures { result ≡ parent_moved up.now moved.now i }

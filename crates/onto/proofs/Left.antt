@@ -33,6 +33,20 @@ module _ (mark : List ℕ) (i : ℕ) (k r : Forest ℕ) where
   unfolding kept
   kept_away e = rw e
 
+-- a row is there with what is left below it, or it is not there
+pub kept_ind : (mark : List ℕ) (Q : Forest ℕ → Forest ℕ → Type 0) → Q bare bare
+    → ((i : ℕ) (k r : Forest ℕ) → Q k (kept mark k) → Q r (kept mark r)
+    → (gone_at mark i ≡ false → Q (tree i k r) (tree i (kept mark k) (kept mark r))) × (gone_at mark i ≡ true → Q (tree i k r) (kept mark r)))
+    → (F : Forest ℕ) → Q F (kept mark F)
+kept_ind mark Q none more bare = rw (kept_bare mark) none
+kept_ind mark Q none more (tree i k r) = go (gone_at mark i) refl (more i k r (kept_ind mark Q none more k) (kept_ind mark Q none more r))
+  where
+    go : (b : Bool) → gone_at mark i ≡ b
+        → (gone_at mark i ≡ false → Q (tree i k r) (tree i (kept mark k) (kept mark r))) × (gone_at mark i ≡ true → Q (tree i k r) (kept mark r))
+        → Q (tree i k r) (kept mark (tree i k r))
+    go false d q = rw (kept_here mark i k r d) (q.0 d)
+    go true d q = rw (kept_away mark i k r d) (q.1 d)
+
 pub left_bare : (t : Nodes) → left t bare ≡ bare
 unfolding left map_t
 left_bare t = rw (kept_bare t.mark)

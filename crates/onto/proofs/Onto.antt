@@ -13,7 +13,7 @@ use lib.Bits.{bit_and, bit_or, and_mod}
 use borrow.Author.Tests.{eqb-true, eqb-false}
 use Rattle.meaning.specs.Basics.{is, dec_both}
 use Rattle.meaning.specs.Tree.{Forest, bare, tree, size}
-use Rattle.meaning.specs.Folding.{LabLe, dec_mark}
+use Rattle.meaning.specs.Folding.{LabLe, TagLe, dec_mark}
 use Rattle.theory.proofs.Look.{never}
 use Rattle.theory.proofs.Canon.{height}
 use Rattle.bits.specs.Bits.{bit_of, all_to}
@@ -22,10 +22,10 @@ use Rattle.rows.specs.Rows.{lab_of, below, Holds, Reaches}
 use Rattle.rows.specs.Brothers.{GivesBrother}
 use Rattle.rows.specs.declared.brothers.Brothers.{Brothers}
 use Rattle.rows.proofs.Rows.{Opens, holds_first, holds_opens}
-use Rattle.onto.specs.Left.{Nodes, gone_at, Gone, Brother}
+use Rattle.onto.specs.Left.{Nodes, tag_of, gone_at, Gone, Brother}
 use Rattle.onto.specs.Onto.{Tells, so, not_so, MarksLe, FitsLeft, ChildrenFold, OntoRow, Lands, Stands}
 use Rattle.onto.proofs.Brothers.{brother_range, Over, over_child, over_all}
-use Rattle.onto.proofs.Left.{any_of_row, row_of_any, folds_of_rows, row_of_folds}
+use Rattle.onto.proofs.Left.{not_both, any_of_row, row_of_any, folds_of_rows, row_of_folds}
 
 -- ------------------------------------------------------------------ answers that tell
 module _ {P : Type 0} where
@@ -46,12 +46,19 @@ module _ {P : Type 0} where
   is_tells (no n) = not_so n
 
 -- P is so: Q tells
-pub rest_tells : {P Q : Type 0} {r : Bool} → P → Tells Q r → Tells (P × Q) r
-rest_tells p t = same_tells (λ q. (p, q)) (λ z. z.1) t
+pub both_tell : {P Q : Type 0} {r s : Bool} → Tells P r → r ≡ true → Tells Q s → Tells (P × Q) s
+both_tell p e = same_tells (λ q. (yes_told p e, q)) (λ z. z.1)
 
--- without P there is no Q
-pub fails : {P Q : Type 0} {r : Bool} → (Q → P) → Tells P r → r ≡ false → Tells Q r
-fails f t e = rw e (not_so (λ q. no_told t e (f q)))
+-- P is not so
+pub first_fails : {P Q : Type 0} {r : Bool} → Tells P r → r ≡ false → Tells (P × Q) r
+first_fails p e = rw e (not_so (λ z. no_told p e z.0))
+
+pub left_fits : (t : Nodes) (a : ℕ) (t' : Nodes) (b : ℕ) {r : Bool} → gone_at t'.mark b ≡ false → Tells (TagLe (tag_of t a) (tag_of t' b)) r
+    → Tells (FitsLeft t a t' b) r
+left_fits t a t' b e = same_tells (λ q. (e, q)) (λ z. z.1)
+
+pub gone_fits : (t : Nodes) (a : ℕ) (t' : Nodes) (b : ℕ) → gone_at t'.mark b ≡ true → Tells (FitsLeft t a t' b) false
+gone_fits t a t' b e = not_so (λ z. not_both e z.0)
 
 pub eqb_tells : (x y : ℕ) → Tells (x ≡ y) (eqb x y)
 eqb_tells x y = go (eqb x y) refl

@@ -13,6 +13,7 @@ ghost use Rattle.onto.specs.Onto.{Tells, MarksLe, FitsLeft, ChildrenFold, OntoRo
 use rows::{GONE, Marks, TreeRows, at};
 
 // "u's marks are among v's": most rows bear none.
+#[tactic(auto, using(crate::proofs::Onto::marks_none, crate::proofs::Onto::marks_tell))]
 fn marks_fit(s: u8, t: u8) -> bool
     ensures { Tells (MarksLe s t) result }
 {
@@ -20,6 +21,7 @@ fn marks_fit(s: u8, t: u8) -> bool
 }
 
 // "u's label is a wildcard or equals v's", by their codes
+#[tactic(auto, using(crate::proofs::Onto::label_any, crate::proofs::Onto::label_tells))]
 fn label_fits(x: u32, y: u32) -> bool
     ensures { Tells (LabLe (lab_of x) (lab_of y)) result }
 {
@@ -50,6 +52,7 @@ pub fn gone(mark: u8) -> u8
 }
 
 // Row b is still there, and row a fits it.
+#[tactic(auto, using(crate::proofs::Onto::left_fits, crate::proofs::Onto::gone_fits))]
 fn fits_left(t: &TreeRows, a: usize, other: &TreeRows, b: usize) -> bool
     requires { (a < most_nodes) × (b < most_nodes) }
     ensures { Tells (FitsLeft (nodes_of t.now) a (nodes_of other.now) b) result }
@@ -86,6 +89,7 @@ fn children_fold(t: &TreeRows, u: usize, other: &TreeRows, v: usize) -> bool
 }
 
 // "u's label is a wildcard or equals v's, u's marks are among v's, and every child of u folds onto some child of v"
+#[tactic(auto, using(crate::proofs::Onto::both_tell, crate::proofs::Onto::first_fails))]
 pub fn folds_onto(t: &TreeRows, u: usize, other: &TreeRows, v: usize) -> bool
     requires { Stands (nodes_of t.now) u × Stands (nodes_of other.now) v }
     ensures { Tells (OntoRow (nodes_of t.now) u (nodes_of other.now) v) result }
