@@ -96,6 +96,8 @@ pub fn on_way(rows: &TreeRows, c: usize, x: usize, y: usize) -> bool
 }
 
 // "A node's own factors are its label, if any, and then one first projection for each child off those ways", the ways to row x and to row y.
+// Inlined into the ways, which call it once for each row.
+#[inline]
 pub fn own(w: &mut Writer, rows: &TreeRows, from: usize, u: usize, x: usize, y: usize)
     requires { IsRow rows.now u × (from ≤ w.old.length)
         × Takes from w.old (own_at rows.now.code rows.now.span x y u) }
