@@ -5,12 +5,10 @@ use mathlib.Core.List.{List, [], ◌∷◌}
 use mathlib.Core.Bool.{Bool, true, false, cond}
 use Prim.Native.Nat.{ℕ, zero, suc, ◌+◌, ◌-◌, ◌<◌, ◌≤◌}
 use native.Mathlib.Omega.{arith}
-use native.Mathlib.Decide.{ℕ_discrete}
 use lib.ListN.{get_or, set, length-set}
 use lib.Seq.{get_or-set_same, get_or-set_other}
 use lib.Dec.{eqb}
 use borrow.Author.Tests.{eq-eqb, ne_eqb}
-use Rattle.meaning.specs.Limits.{most_nodes}
 use Rattle.meaning.specs.Tree.{plant}
 use Rattle.rows.specs.Rows.{no_row, tag_at, map_t}
 use Rattle.rows.specs.Table.{children_of, grown, table_shape, table_tree, TreeTable}
@@ -24,14 +22,6 @@ use Rattle.order.proofs.QueryTable.{level_lt, shape_all}
 -- the lists are as long as they were lent
 pub lent_set : {fs ns : List ℕ} → Lent fs ns → (i v j w : ℕ) → Lent (set fs i v) (set ns j w)
 lent_set {fs} {ns} L i v j w = record { firsts = length-set fs i v ∙ L.firsts; nexts = length-set ns j w ∙ L.nexts }
-
--- ------------------------------------------------------------------ clearing
-pub cleared_more : {i : ℕ} {fs ns : List ℕ} → Lent fs ns → i ≤ most_nodes → Cleared i fs ns → Cleared (i + 1) (set fs i no_row) (set ns i 0)
-cleared_more {i} {fs} {ns} L few h p l = go (ℕ_discrete p i)
-  where
-    go : Dec (p ≡ i) → (get_or (set fs i no_row) p 0 ≡ no_row) × (get_or (set ns i 0) p 0 ≡ 0)
-    go (yes e) = (rw e (get_or-set_same fs i no_row 0 (omega (arith, L.firsts))), rw e (get_or-set_same ns i 0 0 (omega (arith, L.nexts))))
-    go (no d) = let z = h p (omega arith) in (rw (get_or-set_other fs i p no_row 0 d) z.0, rw (get_or-set_other ns i p 0 0 d) z.1)
 
 -- ------------------------------------------------------------------ gathering
 -- a row before the run may be linked anew
@@ -70,13 +60,6 @@ module _ {parent : List ℕ} {n : ℕ} {fs ns : List ℕ} (H : Hangs parent n) (
           (run_set n ns j h (get_or fs (slot_of n x) 0) (children_of x parent (n - suc j) (suc j)) (G x kx))
 
 -- ------------------------------------------------------------------ what the lists hold
-pub hangs : {parent code mark : List ℕ} {n : ℕ} → TreeTable parent code mark n → Hangs parent n
-hangs {parent} {n = n} T = record { few = T.few; parents = T.parents; known = λ i l. known i l (ℕ_discrete (get_or parent i 0) no_row) }
-  where
-    known : (i : ℕ) → i < n → Dec (get_or parent i 0 ≡ no_row) → Known n (get_or parent i 0)
-    known i l (yes e) = inr e
-    known i l (no d) = inl (T.linked i l d).0
-
 module _ {parent code mark : List ℕ} {n : ℕ} (T : TreeTable parent code mark n) (fs ns : List ℕ) (G : Gathered parent n 0 fs ns) where
   children_listed : (p : ℕ) → Known n p → Run n ns 0 (get_or fs (slot_of n p) 0) (children_of p parent n 0)
   children_listed p kp = let z : n - 0 ≡ n = omega arith in rw z at (G p kp)

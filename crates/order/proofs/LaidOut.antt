@@ -384,7 +384,6 @@ shape_is span n F h = holds_is n span 0 n F h (omega arith)
 module _ {code mark : List ℕ} {n : ℕ} {fs ns : List ℕ} {o : Out} {at u x k : ℕ} (w : Laying code mark n fs ns o at u x k) where
   pub laid_rows : n ≤ x → u ≡ no_row
       → Rows o.code o.mark o.kids o.span o.up n × (tree_rows o.code o.mark o.span n ≡ map_t (tag_at code mark) (whole n fs ns))
-      × Room o.code o.mark o.kids o.span o.up
   laid_rows h e =
       let a = laid_all w h e in let F = whole n fs ns in let few = w.tagged.few in let r = w.room in
       let held : Holds o.span 0 n (numbered 0 F) = holds_shown code mark o no_row 0 n F a.1 (omega (arith, w.listed.all)) in
@@ -404,5 +403,4 @@ module _ {code mark : List ℕ} {n : ℕ} {fs ns : List ℕ} {o : Out} {at u x k
           single = rw (is, width_numbered 0 F) w.listed.single;
         },
         unfold tree_rows in rw is (tags_shown code mark o no_row 0 F a.1),
-        r,
       )

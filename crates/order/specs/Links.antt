@@ -1,7 +1,7 @@
 -- Forests as links: `first` (fs) has for each row its first child, `next` (ns) its next brother, and behind the n rows there is one more slot in
 -- `first`, for the top, which has no parent. A link that is not below n leads nowhere. Rows are compared by their keys, and brothers put in order by
 -- insertion, as `place` and `ordered` of Image do it by records.
-use Rattle.std.specs.Prelude.{◌≡◌, ◌⊎◌, List, Bool, true, false, cond, ℕ, zero, suc, ◌<◌, ◌≤◌, length, get_or, ltb}
+use Rattle.std.specs.Prelude.{◌≡◌, ◌⊎◌, List, Bool, cond, ℕ, zero, suc, ◌<◌, ◌≤◌, length, get_or, ltb}
 use Rattle.std.specs.Ordering.{ordering_then, is_le, nat_cmp}
 use Rattle.std.specs.declared.cmp.Ordering.{Ordering}
 use Rattle.std.specs.declared.cmp.Ordering.TheVariants.{Less, Equal, Greater}

@@ -12,6 +12,8 @@ use crate::key::{Keys, key_of};
 use rows::{at, link};
 use std::cmp::Ordering;
 
+// The keys and n go beside the lists, not into them: there are keys only while brothers are put in order, and gluing works in the lists before there
+// are rows. Both stay in registers from call to call.
 impl Lists {
     // The brothers from x on against the brothers from y on: the first two, then their later brothers. Equal keys have equally many children, so two
     // lists that are compared end together, and records are compared byte by byte although none is written. Only children are compared by a call, so
@@ -105,7 +107,7 @@ impl Lists {
             let h = at(&self.first, p);
             let q = self.place(key, n, i, h);
             self.first[p] = q as u16;
-            self.next[p] = self.next[p] + 1;
+            self.next[p] += 1;
         }
     }
 }

@@ -2,7 +2,7 @@
 // What a caller has read, in whatever language, it puts into such a table. The lists to work in are lent, so that a caller may use them before.
 #![tactic(auto)]
 
-ghost use Rattle.std.specs.Prelude.{◌≡◌, ℕ, ◌<◌, ◌≤◌, length, get_or};
+ghost use Rattle.std.specs.Prelude.{◌≡◌, ℕ, ◌<◌, ◌≤◌, get_or};
 ghost use Rattle.meaning.specs.Limits.{most_nodes};
 ghost use Rattle.meaning.specs.Tree.{plain_tree};
 ghost use Rattle.meaning.specs.Image.{ordered};
@@ -27,14 +27,14 @@ pub struct Query<'a> {
 
 // Marks s and d among the first n nodes, which bear no mark: bit 0 is s, bit 1 is d.
 fn mark_ends(mark: &mut Marks, n: usize, s: usize, d: usize)
-    requires { (n ≤ most_nodes) × (n ≤ length mark.old) × (0 < n → (s < n) × (d < n)) × ((i : ℕ) → i < n → get_or mark.old i 0 ≡ 0) }
-    ensures { Ends mark.new n s d × (length mark.new ≡ length mark.old) }
+    requires { (n ≤ most_nodes) × (0 < n → (s < n) × (d < n)) × ((i : ℕ) → i < n → get_or mark.old i 0 ≡ 0) }
+    ensures { Ends mark.new n s d }
 {
     if n == 0 {
         return;
     }
     mark[s] = 1;
-    mark[d] = mark[d] | 2;
+    mark[d] |= 2;
 }
 
 // The tree with brothers in the order of the table.

@@ -3,9 +3,6 @@ use Rattle.rows.specs.Table.{image_tree}
 use Rattle.query.proofs.Laws.{built_table, built_rows}
 use Rattle.query.proofs.word_rows.Goals as goal
 
-pub build-requires : goal.build-requires
-build-requires c = record { accepted = c.requires; sizes = (omega arith, omega arith, omega arith, omega arith, omega arith) }
-
 pub query_rows-requires : goal.query_rows-requires
 query_rows-requires c =
     let b = c.build in let t = b.new in let r = c.kept-built in let k = b.auto in

@@ -1,5 +1,5 @@
 use Rattle.fold.proofs.Whole.{rows_whole}
-use Rattle.tree.proofs.Laws.{rows_sortable, whole_tree, folded_remains, folded_tree}
+use Rattle.tree.proofs.Laws.{rows_sortable, whole_tree, folded_tree}
 use Rattle.tree.proofs.left_rows.Goals as goal
 
 pub returns-then-not-folded : goal.returns-then-not-folded
@@ -7,9 +7,6 @@ returns-then-not-folded c = (rows_sortable _ _ _ _ _ _ c.requires, whole_tree c.
 
 pub fold_rows-requires : goal.fold_rows-requires
 fold_rows-requires c = rows_whole c.requires
-
-pub keep_rows-rows-requires : goal.keep_rows-rows-requires
-keep_rows-rows-requires c = let e = c.fold_rows.ensures.1 in rw (e.code, e.span, e.up, e.len) (folded_remains c.requires c.fold_rows.ensures.0)
 
 pub returns : goal.returns
 returns c =

@@ -1,4 +1,3 @@
-use native.Mathlib.Omega.{arith}
 use mathlib.Core.Path.{refl}
 use borrow.Author.Rules.{rules}
 use Rattle.order.proofs.LaidOut.{laying_none, fits, down_less, laying_down, climbs, laid_rows}
