@@ -3,13 +3,15 @@ use mathlib.Core.Path.{◌≡◌, refl, sym, ap, ◌∙◌, subst}
 use mathlib.Core.Logic.{◌⊎◌, inl, inr}
 use mathlib.Core.List.{List}
 use mathlib.Core.Bool.{Bool, true, false, cond}
-use Prim.Native.Nat.{ℕ, suc, ◌<◌, ◌≤◌}
+use Prim.Native.Nat.{ℕ, suc, ◌<◌}
 use native.Mathlib.Omega.{arith}
 use lib.ListN.{get_or, set, length-set}
 use lib.Seq.{get_or-set_same, get_or-set_other}
+use Rattle.std.specs.Prelude.{Option, None, Some}
 use Rattle.std.specs.Ordering.{is_le}
 use Rattle.meaning.specs.Tree.{Forest, bare, tree, size}
 use Rattle.rows.specs.Rows.{width}
+use Rattle.theory.proofs.Look.{never}
 use Rattle.order.specs.Links.{forest_at, Linked, In, Apart, cmp_f, cmp_t, place_by, ordered_by, spot_of, spot_at, Ready, PutAmong}
 
 -- ------------------------------------------------------------------ links that are kept
@@ -102,24 +104,26 @@ module _ {n : ℕ} {fs ns : List ℕ} {c q : ℕ} (w : Ready n fs ns c q) (key :
       (λ j m. (refl, get_or-set_other (set ns c v) p j y 0 (λ e. np (rw e at m)) ∙ get_or-set_other ns c j v 0 (λ e. nc (rw e at m)))) h
 
   -- after the tree at p, or in front
-  abbrev Lands : ℕ → ℕ → Forest ℕ → ℕ → Type 0
+  abbrev Lands : ℕ → Option ℕ → Forest ℕ → Option ℕ → Type 0
   Lands x p₀ F p =
-      ((p ≡ p₀) × (place_by key c K F ≡ tree c K F)) ⊎ (In p F × Linked n fs (set (set ns c (get_or ns p 0)) p c) x (place_by key c K F))
+      ((p ≡ p₀) × (place_by key c K F ≡ tree c K F))
+      ⊎ ((j : ℕ) × (p ≡ Some j) × In j F × Linked n fs (set (set ns c (get_or ns j 0)) j c) x (place_by key c K F))
 
-  lands : (F : Forest ℕ) (x p₀ : ℕ) → Linked n fs ns x F → Apart F → (In c F → ⊥) → ((j : ℕ) → In j K → In j F → ⊥) → Lands x p₀ F (spot_of key c K p₀ F)
+  lands : (F : Forest ℕ) (x : ℕ) (p₀ : Option ℕ) → Linked n fs ns x F → Apart F → (In c F → ⊥) → ((j : ℕ) → In j K → In j F → ⊥) → Lands x p₀ F (spot_of key c K p₀ F)
   unfolding spot_of place_by
   lands bare x p₀ h a cF kF = inl (refl, refl)
   lands (tree b l r) x p₀ (e, lb, hl, hr) (bl, br, lr, al, ar) cF kF =
-      go (is_le (cmp_t key c K b l)) (lands r (get_or ns b 0) b hr ar (λ m. cF (inr (inr m))) (λ j m m'. kF j m (inr (inr m'))))
+      go (is_le (cmp_t key c K b l)) (lands r (get_or ns b 0) (Some b) hr ar (λ m. cF (inr (inr m))) (λ j m m'. kF j m (inr (inr m'))))
     where
-      p' : Bool → ℕ
-      p' t = cond t p₀ (spot_of key c K b r)
+      p' : Bool → Option ℕ
+      p' t = cond t p₀ (spot_of key c K (Some b) r)
 
       F' : Bool → Forest ℕ
       F' t = cond t (tree c K (tree b l r)) (tree b l (place_by key c K r))
 
-      go : (t : Bool) → Lands (get_or ns b 0) b r (spot_of key c K b r)
-          → ((p' t ≡ p₀) × (F' t ≡ tree c K (tree b l r))) ⊎ (In (p' t) (tree b l r) × Linked n fs (set (set ns c (get_or ns (p' t) 0)) (p' t) c) x (F' t))
+      go : (t : Bool) → Lands (get_or ns b 0) (Some b) r (spot_of key c K (Some b) r)
+          → ((p' t ≡ p₀) × (F' t ≡ tree c K (tree b l r)))
+          ⊎ ((j : ℕ) × (p' t ≡ Some j) × In j (tree b l r) × Linked n fs (set (set ns c (get_or ns j 0)) j c) x (F' t))
       go true ih = inl (refl, refl)
       go false (inl (ep, er)) =
           let v = get_or ns b 0 in
@@ -135,14 +139,12 @@ module _ {n : ℕ} {fs ns : List ℕ} {c q : ℕ} (w : Ready n fs ns c q) (key :
                   (other b v c v r (λ m. cF (inr (inr m))) br hr),
             ),
           ) in
+          inr (b, ep, inl refl, subst (λ (G : Forest ℕ). Linked n fs (set (set ns c v) b c) x (tree b l G)) (sym er) here)
+      go false (inr (p, ep, m, h)) =
+          let v = get_or ns p 0 in
           inr (
-            inl ep,
-            subst (λ (z : ℕ). Linked n fs (set (set ns c (get_or ns z 0)) z c) x (tree b l (place_by key c K r))) (sym ep)
-                (subst (λ (G : Forest ℕ). Linked n fs (set (set ns c v) b c) x (tree b l G)) (sym er) here),
-          )
-      go false (inr (m, h)) =
-          let p = spot_of key c K b r in let v = get_or ns p 0 in
-          inr (
+            p,
+            ep,
             inr (inr m),
             (
               e,
@@ -152,18 +154,25 @@ module _ {n : ℕ} {fs ns : List ℕ} {c q : ℕ} (w : Ready n fs ns c q) (key :
             ),
           )
 
-  module _ {p : ℕ} (ep : p ≡ spot_at n fs ns key c q) where
-    landed : Lands q n Q p
+  module _ {p : Option ℕ} (ep : p ≡ spot_at n fs ns key c q) where
+    landed : Lands q None Q p
     unfolding spot_at
-    landed = rw ep (lands Q q n w.list.holds w.apart.4 w.apart.1 w.apart.2)
+    landed = rw ep (lands Q q None w.list.holds w.apart.4 w.apart.1 w.apart.2)
 
-    pub placed_front : n ≤ p → PutAmong n fs ns key c q (set ns c q) c
+    pub spot_inside : {i : ℕ} → p ≡ Some i → i < n
+    spot_inside {i} h = go landed
+      where
+        go : Lands q None Q p → i < n
+        go (inl (x, y)) = never cc
+        go (inr (j, e, m, y)) = let z : j ≡ i = cc in rw (← z) (in_lt n fs ns Q q j w.list.holds m)
+
+    pub placed_front : p ≡ None → PutAmong n fs ns key c q (set ns c q) c
     placed_front h = go landed
       where
         same : (F : Forest ℕ) (x : ℕ) → (In c F → ⊥) → Linked n fs ns x F → Linked n fs (set ns c q) x F
         same F x d = kept n fs ns fs (set ns c q) F x (λ j m. (refl, get_or-set_other ns c j q 0 (λ e. d (rw e at m))))
 
-        go : Lands q n Q p → PutAmong n fs ns key c q (set ns c q) c
+        go : Lands q None Q p → PutAmong n fs ns key c q (set ns c q) c
         go (inl (x, y)) = record {
           linked = rw y (
             refl,
@@ -175,19 +184,22 @@ module _ {n : ℕ} {fs ns : List ℕ} {c q : ℕ} (w : Ready n fs ns c q) (key :
           long = length-set ns c q;
           rest = λ j jc jq. get_or-set_other ns c j q 0 jc;
         }
-        go (inr (m, y)) = absurd (omega (arith, in_lt n fs ns Q q p w.list.holds m))
+        go (inr (j, e, m, y)) = never cc
 
-    pub placed_after : p < n → PutAmong n fs ns key c q (set (set ns c (get_or ns p 0)) p c) q
-    placed_after h = go landed
+    pub placed_after : {i : ℕ} → p ≡ Some i → PutAmong n fs ns key c q (set (set ns c (get_or ns i 0)) i c) q
+    placed_after {i} h = go landed
       where
-        go : Lands q n Q p → PutAmong n fs ns key c q (set (set ns c (get_or ns p 0)) p c) q
-        go (inl (x, y)) = absurd (omega arith)
-        go (inr (m, y)) = record {
-          linked = y;
-          low = w.low;
-          long = length-set (set ns c (get_or ns p 0)) p c ∙ length-set ns c (get_or ns p 0);
-          rest = λ j jc jq. get_or-set_other (set ns c (get_or ns p 0)) p j c 0 (λ x. jq (rw x m)) ∙ get_or-set_other ns c j (get_or ns p 0) 0 jc;
-        }
+        go : Lands q None Q p → PutAmong n fs ns key c q (set (set ns c (get_or ns i 0)) i c) q
+        go (inl (x, y)) = never cc
+        go (inr (k, e, m, y)) =
+            let z : k ≡ i = cc in
+            let here : In i Q = rw z at m in
+            record {
+              linked = rw z at y;
+              low = w.low;
+              long = length-set (set ns c (get_or ns i 0)) i c ∙ length-set ns c (get_or ns i 0);
+              rest = λ j jc jq. get_or-set_other (set ns c (get_or ns i 0)) i j c 0 (λ x. jq (rw x here)) ∙ get_or-set_other ns c j (get_or ns i 0) 0 jc;
+            }
 
 -- ------------------------------------------------------------------ forests in order
 -- so is every row, with the number of its children

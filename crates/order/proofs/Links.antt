@@ -9,6 +9,7 @@ use native.Mathlib.Decide.{ℕ_discrete}
 use lib.ListN.{get_or}
 use lib.Dec.{ltb}
 use borrow.Author.Tests.{lt-ltb, le-ltb, ltb-true}
+use Rattle.std.specs.Prelude.{Option, Some}
 use Rattle.std.specs.Ordering.{ordering_then, is_ne, is_le, nat_cmp}
 use Rattle.std.specs.declared.cmp.Ordering.{Ordering}
 use Rattle.std.specs.declared.cmp.Ordering.TheVariants.{Less, Equal, Greater}
@@ -198,7 +199,7 @@ module _ (n : ℕ) (fs ns key : List ℕ) (c q : ℕ) where
 
 -- ------------------------------------------------------------------ the place of a tree in a list
 -- the tree at c with k below it, the last brother p that goes before it, and the brothers from `at` on
-module _ (n : ℕ) (fs ns key : List ℕ) (c : ℕ) (p at : ℕ) where
+module _ (n : ℕ) (fs ns key : List ℕ) (c : ℕ) (p : Option ℕ) (at : ℕ) where
   abbrev K : Forest ℕ
   K = forest_at n fs ns (get_or fs c 0)
 
@@ -211,6 +212,6 @@ module _ (n : ℕ) (fs ns key : List ℕ) (c : ℕ) (p at : ℕ) where
     unfolding spot_of goes_first
     spot_here e = rw ((opens w l).reads, ← eb, e)
 
-    pub spot_on : b ≡ false → {m : ℕ} → m ≡ get_or ns at 0 → spot_of key c K p (forest_at n fs ns at) ≡ spot_of key c K at (forest_at n fs ns m)
+    pub spot_on : b ≡ false → {m : ℕ} → m ≡ get_or ns at 0 → spot_of key c K p (forest_at n fs ns at) ≡ spot_of key c K (Some at) (forest_at n fs ns m)
     unfolding spot_of goes_first
     spot_on e em = rw ((opens w l).reads, ← eb, e, em)

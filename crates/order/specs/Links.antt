@@ -1,7 +1,7 @@
 -- Forests as links: `first` (fs) has for each row its first child, `next` (ns) its next brother, and behind the n rows there is one more slot in
 -- `first`, for the top, which has no parent. A link that is not below n leads nowhere. Rows are compared by their keys, and brothers put in order by
 -- insertion, as `place` and `ordered` of Image do it by records.
-use Rattle.std.specs.Prelude.{◌≡◌, ◌⊎◌, List, Bool, cond, ℕ, zero, suc, ◌<◌, ◌≤◌, length, get_or, ltb}
+use Rattle.std.specs.Prelude.{◌≡◌, ◌⊎◌, Option, None, Some, List, Bool, cond, ℕ, zero, suc, ◌<◌, ◌≤◌, length, get_or, ltb}
 use Rattle.std.specs.Ordering.{ordering_then, is_le, nat_cmp}
 use Rattle.std.specs.declared.cmp.Ordering.{Ordering}
 use Rattle.std.specs.declared.cmp.Ordering.TheVariants.{Less, Equal, Greater}
@@ -84,13 +84,13 @@ unfoldable pub goes_first : ℕ → List ℕ → List ℕ → List ℕ → ℕ �
 goes_first n fs ns key c q = is_le (cmp_t key c (forest_at n fs ns (get_or fs c 0)) q (forest_at n fs ns (get_or fs q 0)))
 
 -- the last tree of a list that goes before the tree at c with k below it; p where there is none
-unfoldable pub spot_of : List ℕ → ℕ → Forest ℕ → ℕ → Forest ℕ → ℕ
+unfoldable pub spot_of : List ℕ → ℕ → Forest ℕ → Option ℕ → Forest ℕ → Option ℕ
 spot_of key c k p bare = p
-spot_of key c k p (tree j l r) = cond (is_le (cmp_t key c k j l)) p (spot_of key c k j r)
+spot_of key c k p (tree j l r) = cond (is_le (cmp_t key c k j l)) p (spot_of key c k (Some j) r)
 
--- the same of the list at q; n where there is none
-unfoldable pub spot_at : ℕ → List ℕ → List ℕ → List ℕ → ℕ → ℕ → ℕ
-spot_at n fs ns key c q = spot_of key c (forest_at n fs ns (get_or fs c 0)) n (forest_at n fs ns q)
+-- the same of the list at q
+unfoldable pub spot_at : ℕ → List ℕ → List ℕ → List ℕ → ℕ → ℕ → Option ℕ
+spot_at n fs ns key c q = spot_of key c (forest_at n fs ns (get_or fs c 0)) None (forest_at n fs ns q)
 
 -- the tree at c may be put into the list at q
 pub record Ready (n : ℕ) (fs ns : List ℕ) (c q : ℕ) : Type 0 where

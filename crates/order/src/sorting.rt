@@ -60,19 +60,19 @@ impl Lists {
         }
     }
 
-    // The last tree of the list at q that goes before the tree at c; n where there is none. It changes nothing: `place` does, by two links.
-    fn spot(&self, key: &Keys, n: usize, c: usize, q: usize) -> usize
+    // The last tree of the list at q that goes before the tree at c, if there is one. It changes nothing: `place` does, by two links.
+    fn spot(&self, key: &Keys, n: usize, c: usize, q: usize) -> Option<usize>
         requires { let Ends = Finite n self.now.first self.now.next in
             (n ≤ most_nodes) × (c < n) × Ends (get_or self.now.first c 0) × Ends q }
         ensures { result ≡ spot_at n self.now.first self.now.next key.now c q }
     {
-        let mut p = n;
+        let mut p = None;
         let mut i = q;
         while i < n {
             if self.goes_first(key, n, c, i) {
                 return p;
             }
-            p = i;
+            p = Some(i);
             i = at(&self.next, i);
         }
         p
@@ -83,14 +83,17 @@ impl Lists {
         requires { Ready n self.old.first self.old.next c q }
         ensures { (self.new.first ≡ self.old.first) × PutAmong n self.old.first self.old.next key.now c q self.new.next result }
     {
-        let p = self.spot(key, n, c, q);
-        if n <= p {
-            self.next[c] = q as u16;
-            return c;
+        match self.spot(key, n, c, q) {
+            None => {
+                self.next[c] = q as u16;
+                c
+            }
+            Some(p) => {
+                self.next[c] = self.next[p];
+                self.next[p] = c as u16;
+                q
+            }
         }
-        self.next[c] = self.next[p];
-        self.next[p] = c as u16;
-        q
     }
 
     // Puts all brothers in order, from the last row to the first: what lies below a row comes after it in the table, and is in order when the row is
