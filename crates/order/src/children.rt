@@ -8,7 +8,7 @@ ghost use Rattle.order.specs.Contract.{Lent};
 use rows::{NO_ROW, Starts, link};
 
 // `first` has a row's first child, `next` its next brother. Behind the n rows `first` has one more slot, for the list of the top, which has no
-// parent. A link that is not below n leads nowhere. They are lent and never copied.
+// parent. A link that is not below n leads nowhere: memory is fixed, and an `Option` for each link would double it. They are lent and never copied.
 #[derive(Drop)]
 pub struct Lists {
     pub first: Starts,

@@ -86,8 +86,8 @@ fn ordered_rows(parent: &Links, lists: &mut Lists, rows: &mut TreeRows)
     order::image_rows(table, lists, rows);
 }
 
-// The plain tree, or the minimal tree: laid out, folded to the end if it is to be, then put in order. `folded` is a flag with a name, as in `left_of`:
-// the forms that a caller asks for are three (crate forms), two of them of the minimal tree, and an enum of two more would say no more.
+// The plain tree, or the minimal tree: laid out, folded to the end if it is to be, then put in order. `folded` is a flag with a name, as in
+// `left_of`: the forms that a caller asks for are three (crate forms), two of them of the minimal tree, and one more enum would say no more.
 pub fn query_rows(folded: bool, query: Query<'_>, lists: &mut Lists, rows: &mut TreeRows)
     requires { IsQuery query }
     ensures { RowsAre (image_tree folded (query_at query.entry)) rows.new }
