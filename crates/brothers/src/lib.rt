@@ -45,6 +45,7 @@ fn first_foldable(t: &TreeRows, child: &Starts, from: usize, k: usize) -> Option
 }
 
 // The i-th listed child goes, and the last in the list, at k, takes its place there.
+#[tactic(auto, using(crate::proofs::Children::loses))]
 fn take_out(mark: &mut Marks, child: &mut Starts, i: usize, k: usize)
     requires { (i < most_nodes) × (k < most_nodes) × (get_or child.old i 0 < most_nodes) }
     ensures { TakenOut mark.old child.old i k mark.new child.new }

@@ -5,6 +5,7 @@ use Rattle.onto.proofs.Left.{remarked_none, remarked_more}
 use Rattle.fold.proofs.Whole.{settled_none, settled_stands, settled_more, settled_all}
 use Rattle.fold.proofs.fold_rows.Goals as goal
 
+-- the check finds it alone; it stands here so that the log of must-fail/hands_back names the fact
 pub loop-p-init : goal.loop-p-init
 loop-p-init c = (c.told-child, remarked_none _, settled_none _ _)
 
