@@ -21,9 +21,10 @@ fn label_weight(x: u32) -> usize
     ensures { (result ≡ lab_weight (lab_of x)) × (result ≤ 4) }
 {
     if x == 0 {
-        return 0;
+        0
+    } else {
+        groups::number_length(FIRST_LABEL + (x - 1)) + 1
     }
-    groups::number_length(FIRST_LABEL + (x - 1)) + 1
 }
 
 // The children of row p that are off the ways are branches of their own.
@@ -44,15 +45,12 @@ fn row_weight(rows: &TreeRows, ends: &Ends, u: usize) -> usize
 {
     let own = label_weight(rows.code[u]);
     if u == 0 {
-        return own;
+        own
+    } else if !on_way(rows, u, ends.s, ends.d) && branches_at(rows, ends, rows::at(&rows.up, u)) {
+        own + 3
+    } else {
+        own + 2
     }
-    if on_way(rows, u, ends.s, ends.d) {
-        return own + 2;
-    }
-    if branches_at(rows, ends, rows::at(&rows.up, u)) {
-        return own + 3;
-    }
-    own + 2
 }
 
 // What all rows add. A loop: std's `sum` takes its bound from a `requires`, and here it follows from what one row adds.

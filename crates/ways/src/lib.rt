@@ -41,8 +41,7 @@ fn child_to(rows: &TreeRows, u: usize, x: usize) -> usize
     }
 }
 
-// The three ways stay three functions: of a way up, the factors from s to a row are known (`ups_at` takes one more at its end), of a way down, those
-// that are left; and of the two ways down, one ends in own factors and the other in child. One loop with a closure for the step would need all three laws.
+// `rise`, `way` and `fall` stay apart: a way up is proved by what it has written, a way down by what is left, and only `fall` ends in own factors.
 //
 // "For each node from s up to just below t, its own factors and then parent." These are the first factors of all.
 pub fn rise(w: &mut Writer, rows: &TreeRows, s: usize, t: usize)
