@@ -2,8 +2,12 @@
 // The length comes first: a room that is too short is refused before its first byte is written.
 #![tactic(auto)]
 
-ghost use Rattle.std.specs.Prelude.{◌≡◌, length};
-ghost use Rattle.groups.specs.Filled.{filled, Fits};
+ghost use Rattle.std.specs.Prelude.{◌≡◌, ◌≤◌, length};
+ghost use Rattle.meaning.specs.Limits.{most_nodes};
+ghost use Rattle.meaning.specs.Normal.{normal, word_of};
+ghost use Rattle.rows.specs.Trees.{tree_of};
+ghost use Rattle.groups.specs.Put.{Written as PutBytes};
+ghost use Rattle.image.specs.Listing.{listing_of};
 ghost use Rattle.limits.specs.Refusal.{outcome_of};
 ghost use Rattle.normal.specs.Forms.{IsQuery};
 ghost use Rattle.forms.specs.Form.{is_folded, bytes_of, Fitted};
@@ -44,17 +48,36 @@ impl Form {
         }
     }
 
-    // The form of the rows, written behind what the writer has.
+    // The form of the rows, written into the front of the room; how many bytes it has.
     #[tactic(auto, unfolding(crate::specs::Form::bytes_of))]
-    fn put(self, w: &mut Writer<'_>, rows: &TreeRows)
-        requires { IsQuery rows.now × Fits w.old (bytes_of self rows.now) }
-        ensures { w.new ≡ filled w.old (bytes_of self rows.now) }
+    fn write(self, room: &mut [u8], rows: &TreeRows) -> usize
+        requires { IsQuery rows.now × (length (bytes_of self rows.now) ≤ length room.old) }
+        ensures { PutBytes room.old 0 (bytes_of self rows.now) room.new result }
     {
         match self {
-            Form::Plain | Form::Minimal => image::put_image(w, rows),
-            Form::Normal => normal::form::put_form(w, rows),
+            Form::Plain | Form::Minimal => write_image(room, rows),
+            Form::Normal => write_word(room, rows),
         }
     }
+}
+
+// Each has a writer of its own: the image's then stays in registers, where the word's is lent to calls.
+fn write_image(room: &mut [u8], rows: &TreeRows) -> usize
+    requires { (rows.now.len ≤ most_nodes) × (length (listing_of rows.now) ≤ length room.old) }
+    ensures { PutBytes room.old 0 (listing_of rows.now) room.new result }
+{
+    let mut w = Writer { room, length: 0 };
+    image::put_image(&mut w, rows);
+    w.length
+}
+
+fn write_word(room: &mut [u8], rows: &TreeRows) -> usize
+    requires { IsQuery rows.now × (length (word_of (normal (tree_of rows.now))) ≤ length room.old) }
+    ensures { PutBytes room.old 0 (word_of (normal (tree_of rows.now))) room.new result }
+{
+    let mut w = Writer { room, length: 0 };
+    normal::form::put_form(&mut w, rows);
+    w.length
 }
 
 // The form of the rows in the front of the room, and its length, or refusal 7.
@@ -66,7 +89,5 @@ pub fn fit(room: &mut [u8], form: Form, rows: &TreeRows) -> Result<usize, Refuse
     if room.len() < length {
         return Err(RoomTooShort.at(length));
     }
-    let mut w = Writer { room, length: 0 };
-    form.put(&mut w, rows);
-    Ok(w.length)
+    Ok(form.write(room, rows))
 }

@@ -21,8 +21,10 @@ impl<'a> Writer<'a> {
         requires { self.old.length < length self.old.room.now }
         ensures { self.new ≡ filled self.old (b ∷ []) }
     {
-        self.room[self.length] = b;
-        self.length += 1;
+        // the length is read once, before the byte is stored: for all that the compiler knows, the byte may lie upon it
+        let at = self.length;
+        self.room[at] = b;
+        self.length = at + 1;
     }
 
     // "Low group first; a byte's top bit is set when another group follows."

@@ -20,8 +20,8 @@ pub enum Refusal {
 // A refusal and its place.
 #[derive(Clone, Copy, PartialEq, Eq)]
 pub struct Refused {
-    pub why: Refusal,
     pub place: usize,
+    pub why: Refusal,
 }
 
 impl Refusal {
