@@ -7,13 +7,14 @@ ghost use Rattle.meaning.specs.Limits.{most_nodes};
 ghost use Rattle.meaning.specs.Number.{num, largest_label};
 ghost use Rattle.meaning.specs.Normal.{branch as branchOf};
 ghost use Rattle.rows.specs.Rows.{covers};
+ghost use Rattle.word.specs.Sign.{number_of, Numbered};
 ghost use Rattle.groups.specs.Filled.{filled};
 ghost use Rattle.branches.specs.Joining.{joint, factor, Fits, Takes, filled_by};
 ghost use Rattle.branches.specs.Factors.{IsRow, label_at, chain_at, own_at};
 
 use groups::Writer;
 use rows::TreeRows;
-use word::sign::{CHILD, COMPOSITION, FIRST_LABEL, FIRST_PROJECTION};
+use word::sign::Sign;
 
 // The factor that went to place `at` is joined to what stands before it.
 #[tactic(auto, using(crate::proofs::Joining::joint_none))]
@@ -22,27 +23,28 @@ pub fn join(w: &mut Writer, from: usize, at: usize)
     ensures { w.new ≡ filled w.old (joint (ltb from at)) }
 {
     if from < at {
-        w.put_byte(COMPOSITION as u8);
+        w.put_number(Sign::Composition.number());
     }
 }
 
 // A factor of one sign.
 #[tactic(auto, using(crate::proofs::Joining::fits_rest, crate::proofs::Joining::filled_both))]
-pub fn put_sign(w: &mut Writer, from: usize, sign: u32)
-    requires { Fits w.old (factor from w.old.length (num sign)) }
-    ensures { w.new ≡ filled w.old (factor from w.old.length (num sign)) }
+pub fn put_sign(w: &mut Writer, from: usize, sign: Sign)
+    requires { Numbered sign × Fits w.old (factor from w.old.length (num (number_of sign))) }
+    ensures { w.new ≡ filled w.old (factor from w.old.length (num (number_of sign))) }
 {
     let at = w.length;
-    w.put_number(sign);
+    w.put_number(sign.number());
     join(w, from, at);
 }
 
 // The factors that went to place `at` are put under a projection, and that is joined to what stands before it.
-pub fn project(w: &mut Writer, from: usize, at: usize, projection: u8)
-    requires { Fits w.old (projection ∷ joint (ltb from at)) }
-    ensures { w.new ≡ filled w.old (projection ∷ joint (ltb from at)) }
+#[tactic(auto, using(crate::proofs::Joining::fits_rest, crate::proofs::Joining::filled_both))]
+pub fn project(w: &mut Writer, from: usize, at: usize, projection: Sign)
+    requires { Numbered projection × Fits w.old (factor from at (num (number_of projection))) }
+    ensures { w.new ≡ filled w.old (factor from at (num (number_of projection))) }
 {
-    w.put_byte(projection);
+    w.put_number(projection.number());
     join(w, from, at);
 }
 
@@ -54,7 +56,7 @@ fn put_label(w: &mut Writer, rows: &TreeRows, from: usize, u: usize)
 {
     let x = rows.code[u];
     if x != 0 {
-        put_sign(w, from, FIRST_LABEL + (x - 1));
+        put_sign(w, from, Sign::Label(x - 1));
     }
 }
 
@@ -67,7 +69,7 @@ fn branch(w: &mut Writer, rows: &TreeRows, from: usize, u: usize)
 {
     let at = w.length;
     chain(w, rows, at, u);
-    project(w, from, at, FIRST_PROJECTION as u8);
+    project(w, from, at, Sign::FirstProjection);
 }
 
 // "Child, the node's label, and then, if it has exactly one child, the chain goes on with that child; if it has more, one first projection each."
@@ -77,7 +79,7 @@ fn chain(w: &mut Writer, rows: &TreeRows, from: usize, u: usize)
         × Takes from w.old (chain_at rows.now.code rows.now.span u) }
     ensures { w.new ≡ filled_by from w.old (chain_at rows.now.code rows.now.span u) }
 {
-    put_sign(w, from, CHILD);
+    put_sign(w, from, Sign::Child);
     put_label(w, rows, from, u);
     if rows.kids[u] == 1 {
         return chain(w, rows, from, u + 1);

@@ -10,7 +10,7 @@ ghost use Rattle.normal.specs.Forms.{IsQuery, form_at};
 use crate::ends::Ends;
 use groups::Writer;
 use rows::TreeRows;
-use word::sign::{EMPTY, SELF};
+use word::sign::Sign;
 
 // "The factors, in order", joined from the left.
 fn factors(w: &mut Writer, rows: &TreeRows, ends: &Ends)
@@ -34,11 +34,11 @@ pub fn put_form(w: &mut Writer, rows: &TreeRows)
     ensures { w.new ≡ filled w.old (word_of (normal (tree_of rows.now))) }
 {
     if rows.len == 0 {
-        return w.put_byte(EMPTY as u8);
+        return w.put_number(Sign::Empty.number());
     }
     let from = w.length;
     factors(w, rows, &Ends::of(rows));
     if w.length == from {
-        w.put_byte(SELF as u8);
+        w.put_number(Sign::Itself.number());
     }
 }

@@ -12,7 +12,7 @@ ghost use Rattle.normal.specs.Weights.{lab_weight, branching, row_weight, rows_w
 use crate::ends::Ends;
 use branches::on_way;
 use rows::TreeRows;
-use word::sign::FIRST_LABEL;
+use word::sign::Sign;
 
 // A label's sign and the sign that joins it; a wildcard has none.
 #[tactic(auto, unfolding(crate::specs::Weights::lab_weight), using(crate::proofs::Counting::label_some, crate::proofs::Counting::label_short))]
@@ -23,7 +23,7 @@ fn label_weight(x: u32) -> usize
     if x == 0 {
         0
     } else {
-        groups::number_length(FIRST_LABEL + (x - 1)) + 1
+        groups::number_length(Sign::Label(x - 1).number()) + 1
     }
 }
 

@@ -1,22 +1,24 @@
 -- The table of signs: the steps and the plain tree query of what each sign makes.
-use mathlib.Core.Path.{◌≡◌, refl, subst}
+use mathlib.Core.Path.{◌≡◌, refl, sym, ap, subst}
 use mathlib.Core.Logic.{◌≢◌}
-use mathlib.Core.Bool.{Bool, true, false, cond}
+use mathlib.Core.Bool.{Bool, true, false, true≢false, cond}
 use mathlib.Core.Option.{Option, none, some}
 use Prim.Native.Nat.{ℕ, zero, suc, ◌+◌, ◌-◌, ◌≤◌}
 use native.Mathlib.Omega.{arith}
 use lib.Dec.{eqb}
-use borrow.Author.Tests.{ne_eqb}
+use borrow.Author.Tests.{eq-eqb, ne_eqb}
 use Rattle.meaning.specs.Basics.{mapped}
 use Rattle.meaning.specs.Expression.{Expr, steps}
 use Rattle.meaning.specs.TreeQuery.{Query}
 use Rattle.meaning.specs.Gluing.{two, one_node, two_nodes, both_at_s, both_at_d, exchanged, plain}
 use Rattle.meaning.specs.Word.{Sign, operand, unary, binary, sign_of, is_step}
 use Rattle.rows.specs.Rows.{lab_of}
-use Rattle.word.specs.Sign.{kind_by, kind_of}
+use Rattle.word.specs.Sign.{number_of, kind_by, kind_of}
+use Rattle.word.specs.declared.sign.Sign as word
+use Rattle.word.specs.declared.sign.Sign.TheVariants.{Intersection}
 use Rattle.word.specs.declared.sign.Kind.{Kind}
 use Rattle.word.specs.declared.sign.Kind.TheVariants.{Operand, Step, Unary, Binary}
-use Rattle.word.proofs.Signs.{sign_label}
+use Rattle.word.proofs.Signs.{number_unique, sign_label}
 use Rattle.glue.specs.Trees.{chosen}
 
 -- ------------------------------------------------------------------ what a sign makes
@@ -60,6 +62,11 @@ module _ (v : ℕ) where
   pub binary_means : {f : Expr → Expr → Expr} → sign_of v ≡ binary f → (d e : Expr)
       → (steps (f d e) ≡ steps d + steps e) × (plain (f d e) ≡ two (chosen (eqb v 7)) (plain d) (plain e))
   binary_means q = subst (λ s. Means s v) q (sign_means v)
+
+-- whether it is sign 7
+pub glues_both : (s : word.Sign) (b : Bool) → (b ≡ true → s ≡ Intersection) → (s ≡ Intersection → b ≡ true) → b ≡ eqb (number_of s) 7
+glues_both s true h k = sym (eq-eqb (number_of s) 7 (ap number_of (h refl)))
+glues_both s false h k = sym (ne_eqb (number_of s) 7 (λ e. true≢false (sym (k (number_unique s Intersection e)))))
 
 -- ------------------------------------------------------------------ the kinds of signs
 abbrev OfKind : Kind → Sign → Type 0

@@ -3,6 +3,7 @@ ghost use Rattle.std.specs.Prelude.{◌≡◌, List, ℕ, ◌+◌, ◌-◌, ◌%
 ghost use Rattle.meaning.specs.Expression.{Expr};
 ghost use Rattle.meaning.specs.Gluing.{plain};
 ghost use Rattle.meaning.specs.Word.{operand, unary, binary, sign_of};
+ghost use Rattle.word.specs.Sign.{number_of, Numbered};
 ghost use Rattle.glue.specs.Rows.{pool_rows};
 ghost use Rattle.glue.specs.Trees.{kept, rows_in, built_from};
 ghost use Rattle.pool.specs.Pool.{held, OnlyRows, built, operand_at, InOrder, Trees, Passes};
@@ -10,10 +11,7 @@ ghost use Rattle.pool.specs.Latest.{topped, LatestIs, Makes, PutFits, with_lates
 
 use glue::trees::{Built, glue_two, kept};
 use rows::{NO_ROW, link, set_link};
-use word::sign::{
-    CHILD, EMPTY, FIRST_LABEL, FIRST_PROJECTION, INTERSECTION, Kind, PARENT, SECOND_PROJECTION,
-    kind_of,
-};
+use word::sign::{Kind, Sign, kind_of};
 
 // The latest operand once a sign is applied: its place among the pending operands, and what was built.
 #[derive(Clone, Copy)]
@@ -34,31 +32,29 @@ pub struct Pool<'a> {
     pub pending: usize,
 }
 
-// "9+L: label L", and the code of label L is L+1.
-const CODE_TO_SIGN: u32 = FIRST_LABEL - 1;
-
-// The label code of an operand sign's top: a label's, or the wildcard's.
-fn code_of(sign: u32) -> u32
-    ensures { result ≡ sign - 8 }
+// The label code of an operand sign's top: label L has the code L+1, the wildcard 0.
+fn code_of(sign: Sign) -> u32
+    requires { Numbered sign }
+    ensures { result ≡ number_of sign - 8 }
 {
-    if sign < FIRST_LABEL {
-        return 0;
+    match sign {
+        Sign::Label(label) => label + 1,
+        _ => 0,
     }
-    sign - CODE_TO_SIGN
 }
 
 // "self and a label give one node, child a top s with one child d; parent the same with s and d exchanged": the rows and marks of an operand sign.
-fn shape(sign: u32) -> Option<Built>
-    ensures { (rows_in result ≤ 2) × ((e : Expr) → sign_of sign ≡ operand e → topped (sign - 8) result ≡ plain e) }
+fn shape(sign: Sign) -> Option<Built>
+    ensures { (rows_in result ≤ 2) × ((e : Expr) → sign_of (number_of sign) ≡ operand e → topped (number_of sign - 8) result ≡ plain e) }
 {
     match sign {
-        EMPTY => None,
-        CHILD => Some(Built {
+        Sign::Empty => None,
+        Sign::Child => Some(Built {
             rows: 2,
             s: 0,
             d: 1,
         }),
-        PARENT => Some(Built {
+        Sign::Parent => Some(Built {
             rows: 2,
             s: 1,
             d: 0,
@@ -72,14 +68,14 @@ fn shape(sign: u32) -> Option<Built>
 }
 
 // "Projections move one mark to the other's node, inverse exchanges them."
-fn turned(q: Option<Built>, sign: u32) -> Option<Built>
-    ensures { (f : Expr → Expr) (e : Expr) (a : ℕ) (P L : List ℕ) → sign_of sign ≡ unary f → built_from a q P L ≡ plain e
+fn turned(q: Option<Built>, sign: Sign) -> Option<Built>
+    ensures { (f : Expr → Expr) (e : Expr) (a : ℕ) (P L : List ℕ) → sign_of (number_of sign) ≡ unary f → built_from a q P L ≡ plain e
         → built_from a result P L ≡ plain (f e) }
 {
     let Built { rows, s, d } = q?;
     match sign {
-        FIRST_PROJECTION => Some(Built { rows, s, d: s }),
-        SECOND_PROJECTION => Some(Built { rows, s: d, d }),
+        Sign::FirstProjection => Some(Built { rows, s, d: s }),
+        Sign::SecondProjection => Some(Built { rows, s: d, d }),
         _ => Some(Built { rows, s: d, d: s }),
     }
 }
@@ -111,11 +107,12 @@ impl<'a> Pool<'a> {
     }
 
     // A new operand: a top and a child of it are written, and the sign tells how many of the two it has.
-    fn lay(&mut self, sign: u32) -> Latest
-        requires { let p = held self.old in let n = self.old.pending in
+    fn lay(&mut self, sign: Sign) -> Latest
+        requires number { Numbered sign }
+        requires room { let p = held self.old in let n = self.old.pending in
             (n < length p.first) × (get_or p.first n 0 + 1 < pool_rows) × (pool_rows ≤ length p.parent) × (pool_rows ≤ length p.label) }
         ensures rows { OnlyRows self.old self.new }
-        ensures latest { (e : Expr) → sign_of sign ≡ operand e → LatestIs self.old self.old.pending result self.new (plain e) }
+        ensures latest { (e : Expr) → sign_of (number_of sign) ≡ operand e → LatestIs self.old self.old.pending result self.new (plain e) }
     {
         let k = self.pending;
         let u = self.start(k);
@@ -131,10 +128,10 @@ impl<'a> Pool<'a> {
     }
 
     // The latest operand with its marks moved.
-    fn turn(&self, sign: u32) -> Latest
+    fn turn(&self, sign: Sign) -> Latest
         requires { let p = held self.now in let n = self.now.pending in
             (1 ≤ n) × (n < length p.first) × (n ≤ length p.s) × (n ≤ length p.d) × (get_or p.first (n - 1) 0 ≤ get_or p.first n 0) }
-        ensures { (f : Expr → Expr) (e : Expr) → sign_of sign ≡ unary f → operand_at (held self.now) (self.now.pending - 1) ≡ plain e
+        ensures { (f : Expr → Expr) (e : Expr) → sign_of (number_of sign) ≡ unary f → operand_at (held self.now) (self.now.pending - 1) ≡ plain e
             → LatestIs self.now (self.now.pending - 1) result self.now (plain (f e)) }
     {
         let k = self.pending - 1;
@@ -145,11 +142,11 @@ impl<'a> Pool<'a> {
     }
 
     // "Signs 4 and 7 take the two latest operands, the earlier as first": their rows are used again for what comes of them.
-    fn glue_latest(&mut self, sign: u32) -> Latest
+    fn glue_latest(&mut self, sign: Sign) -> Latest
         requires { let p = held self.old in let n = self.old.pending in (2 ≤ n) × (InOrder p n × Trees p n) }
         ensures rows { OnlyRows self.old self.new }
         ensures latest { let p = held self.old in let n = self.old.pending in
-            (f : Expr → Expr → Expr) (e g : Expr) → sign_of sign ≡ binary f → operand_at p (n - 2) ≡ plain e → operand_at p (n - 1) ≡ plain g
+            (f : Expr → Expr → Expr) (e g : Expr) → sign_of (number_of sign) ≡ binary f → operand_at p (n - 2) ≡ plain e → operand_at p (n - 1) ≡ plain g
             → LatestIs self.old (n - 2) result self.new (plain (f e g)) }
     {
         let k = self.pending - 2;
@@ -161,16 +158,17 @@ impl<'a> Pool<'a> {
             &mut self.label[a..],
             p,
             q,
-            sign == INTERSECTION,
+            sign == Sign::Intersection,
         );
         Latest { at: k, built }
     }
 
     // What a sign that the check of the word lets pass makes of the latest operands, in the rows.
-    pub fn make(&mut self, sign: u32) -> Latest
-        requires { Passes (held self.old) self.old.pending sign }
+    pub fn make(&mut self, sign: Sign) -> Latest
+        requires number { Numbered sign }
+        requires passes { Passes (held self.old) self.old.pending (number_of sign) }
         ensures rows { OnlyRows self.old self.new }
-        ensures latest { Makes (held self.old) self.old.pending sign result self.new.parent.now self.new.label.now }
+        ensures latest { Makes (held self.old) self.old.pending (number_of sign) result self.new.parent.now self.new.label.now }
     {
         match kind_of(sign) {
             Kind::Unary => self.turn(sign),

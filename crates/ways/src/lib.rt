@@ -11,7 +11,7 @@ ghost use Rattle.ways.specs.Ways.{Covers, Part, Pair, IsClimb, Lowest, Among, up
 
 use groups::Writer;
 use rows::TreeRows;
-use word::sign::{CHILD, PARENT, SECOND_PROJECTION};
+use word::sign::Sign;
 
 // "Let t be the lowest node above or at both s and d": up from s to the first row that holds d.
 pub fn lowest(rows: &TreeRows, s: usize, d: usize) -> usize
@@ -54,7 +54,7 @@ pub fn rise(w: &mut Writer, rows: &TreeRows, s: usize, t: usize)
     let mut x = s;
     while x != t {
         branches::own(w, rows, from, x, s, s);
-        branches::put_sign(w, from, PARENT);
+        branches::put_sign(w, from, Sign::Parent);
         x = rows::at(&rows.up, x);
     }
 }
@@ -72,7 +72,7 @@ fn way(w: &mut Writer, rows: &TreeRows, t: usize)
     while x != t {
         let c = child_to(rows, x, t);
         branches::own(w, rows, from, x, t, t);
-        branches::put_sign(w, from, CHILD);
+        branches::put_sign(w, from, Sign::Child);
         x = c;
     }
 }
@@ -89,7 +89,7 @@ pub fn above(w: &mut Writer, rows: &TreeRows, from: usize, t: usize)
     }
     let at = w.length;
     way(w, rows, t);
-    branches::project(w, from, at, SECOND_PROJECTION as u8);
+    branches::project(w, from, at, Sign::SecondProjection);
 }
 
 // "For each node below t down to d, child and its own factors."
@@ -103,7 +103,7 @@ pub fn fall(w: &mut Writer, rows: &TreeRows, from: usize, t: usize, d: usize)
     let mut x = t;
     while x != d {
         x = child_to(rows, x, d);
-        branches::put_sign(w, from, CHILD);
+        branches::put_sign(w, from, Sign::Child);
         branches::own(w, rows, from, x, d, d);
     }
 }

@@ -1,33 +1,69 @@
-// The table of signs: their numbers, and what each does to the pending operands.
-// A sign stays the number that the word has: the definitions (`sign_of`, `takes`) and each contract here and in pool speak of that number, so an enum
-// would be a second table, from numbers to names and back, for the four places that match on one.
+// The table of signs: their names and numbers, and what each does to the pending operands.
 ghost use Rattle.std.specs.Prelude.{◌≡◌};
-ghost use Rattle.word.specs.Sign.{kind_of};
+ghost use Rattle.word.specs.Sign.{number_of, Numbered, kind_of};
 
 use limits::most::LARGEST_LABEL;
-
-pub const EMPTY: u32 = 0;
-
-pub const SELF: u32 = 1;
-
-pub const CHILD: u32 = 2;
-
-pub const PARENT: u32 = 3;
-
-pub const COMPOSITION: u32 = 4;
-
-pub const FIRST_PROJECTION: u32 = 5;
-
-pub const SECOND_PROJECTION: u32 = 6;
-
-pub const INTERSECTION: u32 = 7;
-
-pub const INVERSE: u32 = 8;
 
 // "9+L: label L", "so the largest sign is 65,544."
 pub const FIRST_LABEL: u32 = 9;
 
 pub const LARGEST_SIGN: u32 = FIRST_LABEL + LARGEST_LABEL;
+
+// The signs in the order of their numbers.
+#[derive(Clone, Copy, PartialEq, Eq)]
+pub enum Sign {
+    Empty,
+    Itself,
+    Child,
+    Parent,
+    Composition,
+    FirstProjection,
+    SecondProjection,
+    Intersection,
+    Inverse,
+    Label(u32),
+}
+
+// The sign that a number stands for; that no second one does is `number_unique`.
+impl From<u32> for Sign {
+    ghost from_gives = { λ number sign. number_of sign ≡ number };
+
+    fn from(number: u32) -> Self {
+        match number {
+            0 => Sign::Empty,
+            1 => Sign::Itself,
+            2 => Sign::Child,
+            3 => Sign::Parent,
+            4 => Sign::Composition,
+            5 => Sign::FirstProjection,
+            6 => Sign::SecondProjection,
+            7 => Sign::Intersection,
+            8 => Sign::Inverse,
+            _ => Sign::Label(number - FIRST_LABEL),
+        }
+    }
+}
+
+impl Sign {
+    // Its number in the table.
+    pub fn number(self) -> u32
+        requires { Numbered self }
+        ensures { result ≡ number_of self }
+    {
+        match self {
+            Sign::Empty => 0,
+            Sign::Itself => 1,
+            Sign::Child => 2,
+            Sign::Parent => 3,
+            Sign::Composition => 4,
+            Sign::FirstProjection => 5,
+            Sign::SecondProjection => 6,
+            Sign::Intersection => 7,
+            Sign::Inverse => 8,
+            Sign::Label(label) => FIRST_LABEL + label,
+        }
+    }
+}
 
 // What a sign does to the pending operands: an operand, an operand that is a step, an operator on one or on two.
 #[derive(Clone, Copy)]
@@ -39,14 +75,13 @@ pub enum Kind {
 }
 
 // "Signs 4 and 7 take the two latest operands, the earlier as first; 5, 6 and 8 take one. Signs 2 and 3 are steps."
-pub fn kind_of(sign: u32) -> Kind
-    ensures { result ≡ kind_of sign }
+pub fn kind_of(sign: Sign) -> Kind
+    ensures { result ≡ kind_of (number_of sign) }
 {
     match sign {
-        EMPTY | SELF => Kind::Operand,
-        CHILD | PARENT => Kind::Step,
-        COMPOSITION | INTERSECTION => Kind::Binary,
-        FIRST_PROJECTION | SECOND_PROJECTION | INVERSE => Kind::Unary,
-        _ => Kind::Operand,
+        Sign::Empty | Sign::Itself | Sign::Label(_) => Kind::Operand,
+        Sign::Child | Sign::Parent => Kind::Step,
+        Sign::Composition | Sign::Intersection => Kind::Binary,
+        Sign::FirstProjection | Sign::SecondProjection | Sign::Inverse => Kind::Unary,
     }
 }

@@ -1,4 +1,5 @@
 use Rattle.std.proofs.Common.{arith, ap, sym, ◌∙◌}
+use native.Mathlib.Decide.{dec_lt}
 use Rattle.groups.specs.Filled.{filled}
 use Rattle.branches.proofs.Joining.{fits_first, fits_rest, filled_both, child_fits}
 use Rattle.branches.proofs.Covers.{covers_before}
@@ -13,17 +14,19 @@ branch-chain-requires t c =
     (omega arith, (R, omega arith, fits_first _ _ c.args.w.now (rw e at f)))
 
 pub branch-project-requires : goal.branch-project-requires
+unfolding dec_lt
 branch-project-requires t c =
     let e = branch_parts c.args.rows.now.code c.args.rows.now.span c.args.from c.args.w.now.length c.args.u in
-    fits_rest _ _ c.args.w.now (rw e at c.requires.2) c.chain.ensures
+    (omega arith, fits_rest _ _ c.args.w.now (rw e at c.requires.2) c.chain.ensures)
 
 pub branch-returns : goal.branch-returns
+unfolding dec_lt
 branch-returns t c =
     let e = branch_parts c.args.rows.now.code c.args.rows.now.span c.args.from c.args.w.now.length c.args.u in
     filled_both _ _ c.args.w.now c.chain.ensures c.project.ensures ∙ ap (filled c.args.w.now) (sym e)
 
 pub chain-put_sign-requires : goal.chain-put_sign-requires
-chain-put_sign-requires t c = let (R, le, f) = c.requires in child_fits (chain_start c.args.rows.now _ _ c.args.w.now R le f)
+chain-put_sign-requires t c = let (R, le, f) = c.requires in (omega arith, child_fits (chain_start c.args.rows.now _ _ c.args.w.now R le f))
 
 pub chain-put_label-requires : goal.chain-put_label-requires
 chain-put_label-requires t c =

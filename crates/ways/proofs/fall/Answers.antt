@@ -7,7 +7,7 @@ pub put_sign-requires : goal.put_sign-requires
 put_sign-requires c =
     let (R, v, L) = c.loop-x.invariant in
     let (a, w) = c.child_to-x.ensures in
-    child_fits (down_start R a w v L)
+    (omega arith, child_fits (down_start R a w v L))
 
 pub own-requires : goal.own-requires
 own-requires c =

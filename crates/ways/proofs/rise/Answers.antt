@@ -15,7 +15,7 @@ pub put_sign-requires : goal.put_sign-requires
 put_sign-requires c =
     let (tx, v, w) = c.loop-x.invariant in
     let (C, f) = c.requires in
-    rise_parent C c.loop-x.x tx v c.loop-x-test.true c.args.w.now w f c.own.ensures
+    (omega arith, rise_parent C c.loop-x.x tx v c.loop-x-test.true c.args.w.now w f c.own.ensures)
 
 pub loop-x-smaller : goal.loop-x-smaller
 loop-x-smaller c =

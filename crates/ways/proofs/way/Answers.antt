@@ -16,7 +16,7 @@ pub put_sign-requires : goal.put_sign-requires
 put_sign-requires c =
     let (R, v, L) = c.loop-x.invariant in
     let (a, w) = c.child_to-c.ensures in
-    child_fits (left_step _ _ (way_start R a w v c.loop-x-test.true L) c.own.ensures)
+    (omega arith, child_fits (left_step _ _ (way_start R a w v c.loop-x-test.true L) c.own.ensures))
 
 pub loop-x-smaller : goal.loop-x-smaller
 loop-x-smaller c = let (R, v, L) = c.loop-x.invariant in let (a, w) = c.child_to-c.ensures in omega (arith, child_behind R a w v, w.from)

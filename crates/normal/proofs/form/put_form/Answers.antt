@@ -1,6 +1,6 @@
 -- No rows; no factor at all; or the factors.
-use Rattle.std.proofs.Common.{sym, ap, arith, length, ◌∙◌}
-use Rattle.groups.specs.Filled.{filled}
+use Rattle.std.proofs.Common.{ap, arith, length}
+use native.Mathlib.Decide.{dec_lt}
 use Rattle.normal.proofs.Forms.{form_fits, form_some, form_none}
 use Rattle.normal.proofs.Marks.{src_in_lem}
 use Rattle.normal.proofs.form.put_form.Goals as goal
@@ -15,19 +15,21 @@ factors-requires c =
       form_fits Q ne E.source E.destination E.lowest c.args.w.now f,
     )
 
-pub put_byte-requires-then-w-from : goal.put_byte-requires-then-w-from
-put_byte-requires-then-w-from c =
+pub put_number-requires-then-w-from : goal.put_number-requires-then-w-from
+unfolding dec_lt
+put_number-requires-then-w-from c =
     let (Q, f) = c.requires in
     let E = c.of.ensures in
     let (e, z) = form_none Q c.if-rows-eq0.false E.source E.destination E.lowest c.args.w.now c.factors.ensures c.if-w-from.true in
-    rw z (omega (arith, ap length e))
+    rw (z, c.number-then-w-from.ensures) (omega (arith, ap length e))
 
 pub returns-then-w-from : goal.returns-then-w-from
+unfolding dec_lt
 returns-then-w-from c =
     let (Q, f) = c.requires in
     let E = c.of.ensures in
     let (e, z) = form_none Q c.if-rows-eq0.false E.source E.destination E.lowest c.args.w.now c.factors.ensures c.if-w-from.true in
-    rw e (rw z at c.put_byte-then-w-from.ensures)
+    rw e (rw (z, c.number-then-w-from.ensures) at c.put_number-then-w-from.ensures)
 
 pub returns-else-w-from : goal.returns-else-w-from
 returns-else-w-from c =

@@ -1,35 +1,25 @@
--- The nine signs by their numbers, and the labels behind them.
-use Rattle.std.proofs.Common.{refl, arith}
+-- The signs of each kind, one by one.
+use Rattle.std.proofs.Common.{refl}
+use mathlib.Core.Logic.{⊎_elim}
 use Rattle.meaning.specs.Word.{sign_of, is_step}
 use Rattle.word.specs.Sign.{kind_of}
-use Rattle.word.proofs.Signs.{one_of_two, kind_of_two, kind_label}
+use Rattle.word.specs.declared.sign.Sign.TheVariants.{Empty, Itself, Child, Parent, Composition, FirstProjection, SecondProjection, Intersection, Inverse}
+use Rattle.word.proofs.Signs.{kind_is, kind_label}
 use Rattle.word.proofs.sign.kind_of.Goals as goal
 
--- 4 and 7
-pub returns-in-4 : goal.returns-in-4
+pub returns-in-Empty : goal.returns-in-Empty
 unfolding kind_of sign_of is_step
-returns-in-4 c = kind_of_two 4 7 _ refl refl c.in-4.is
+returns-in-Empty c = ⊎_elim (kind_is Empty refl) (⊎_elim (kind_is Itself refl) (λ (l, e). rw e (kind_label l))) c.in-Empty.is
 
--- 0 and 1
-pub returns-in-0 : goal.returns-in-0
+pub returns-in-Child : goal.returns-in-Child
 unfolding kind_of sign_of is_step
-returns-in-0 c = kind_of_two 0 1 _ refl refl (one_of_two 0 c.args.sign (omega arith) (omega arith))
+returns-in-Child c = ⊎_elim (kind_is Child refl) (kind_is Parent refl) c.in-Child.is
 
--- 2 and 3
-pub returns-in-2 : goal.returns-in-2
+pub returns-in-Composition : goal.returns-in-Composition
 unfolding kind_of sign_of is_step
-returns-in-2 c = kind_of_two 2 3 _ refl refl (one_of_two 2 c.args.sign (omega arith) (omega arith))
+returns-in-Composition c = ⊎_elim (kind_is Composition refl) (kind_is Intersection refl) c.in-Composition.is
 
--- 9 and above: the labels
-pub returns-in_default : goal.returns-in_default
-returns-in_default c = kind_label c.args.sign (grind arith)
-
--- 8
-pub returns-in-5 : goal.returns-in-5
+pub returns-in-FirstProjection : goal.returns-in-FirstProjection
 unfolding kind_of sign_of is_step
-returns-in-5 c = rw c.in-5.is
-
--- 5 and 6
-pub returns-in-5-2 : goal.returns-in-5-2
-unfolding kind_of sign_of is_step
-returns-in-5-2 c = kind_of_two 5 6 _ refl refl (one_of_two 5 c.args.sign (grind arith) (grind arith))
+returns-in-FirstProjection c =
+    ⊎_elim (kind_is FirstProjection refl) (⊎_elim (kind_is SecondProjection refl) (kind_is Inverse refl)) c.in-FirstProjection.is

@@ -1,6 +1,6 @@
 -- The two latest are lent from the first row of the earlier on.
-use lib.Dec.{eqb}
-use Rattle.pool.proofs.Signs.{binary_means}
+use Rattle.std.proofs.Common.{rules}
+use Rattle.pool.proofs.Signs.{binary_means, glues_both}
 use Rattle.pool.proofs.Parts.{lent_fits, lent_trees, lent_made}
 use Rattle.pool.proofs.operand.Pool.glue_latest.Goals as goal
 
@@ -12,5 +12,6 @@ glue_two-built-requires c =
 pub returns-clause-latest : goal.returns-clause-latest
 returns-clause-latest c f e g q o₁ o₂ =
     let p = c.requires in let r = c.glue_two-built in
-    lent_made _ _ p.0 p.1.0 _ c.start-a.ensures.0 _ _ c.operand-p.ensures c.operand-q.ensures (eqb c.args.sign 7) r.result r.new.parent r.new.label r.ensures e g (f e g)
-    (binary_means c.args.sign q e g).1 o₁ o₂
+    let b = glues_both c.args.sign c.eq.result (search rules) (search rules) in
+    lent_made _ _ p.0 p.1.0 _ c.start-a.ensures.0 _ _ c.operand-p.ensures c.operand-q.ensures c.eq.result r.result r.new.parent r.new.label r.ensures e g (f e g)
+    (rw b (binary_means _ q e g).1) o₁ o₂

@@ -7,17 +7,17 @@ use Rattle.pool.proofs.operand.Pool.make.Goals as goal
 pub turn-requires : goal.turn-requires
 turn-requires c =
     let (f, q) = of_kind _ _ c.in-Unary.ensures in
-    unary_asks _ _ _ f q c.requires
+    unary_asks _ _ _ f q c.requires.passes
 
 pub glue_latest-requires : goal.glue_latest-requires
 glue_latest-requires c =
     let (f, q) = of_kind _ _ c.in-Binary.ensures in
-    binary_asks _ _ _ f q c.requires
+    binary_asks _ _ _ f q c.requires.passes
 
-pub lay-requires : goal.lay-requires
-lay-requires c =
+pub lay-requires-clause-room : goal.lay-requires-clause-room
+lay-requires-clause-room c =
     let (e, q) = operand_kind _ _ c.kind_of.ensures c.in_default.not-Unary c.in_default.not-Binary in
-    operand_asks _ _ _ e q c.requires
+    operand_asks _ _ _ e q c.requires.passes
 
 pub returns-in-Unary : goal.returns-in-Unary
 returns-in-Unary c =
