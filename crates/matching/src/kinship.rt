@@ -46,7 +46,7 @@ fn mark_row(w: &[u8], c: usize, document: &Document<'_>, has: &mut Flags)
     ensures { Added has.old (ParentOf w.now c document.now.parents.now (length document.now.parents.now)) has.new }
 {
     let at = 128 * c;
-    let bytes = (document.parents.len() + 7) / 8;
+    let bytes = document.parents.len().div_ceil(8);
     let b = w[at] >> 1;
     mark_parents(b, 1, document, has);
     for i in 1..bytes {
@@ -64,5 +64,5 @@ pub fn keep_parents(w: &mut [u8], u: usize, c: usize, document: &Document<'_>)
 {
     let mut has = [0u8; MOST_ROWS];
     mark_row(w, c, document, &mut has);
-    bits::meet(w, u, &has, (document.parents.len() + 7) / 8);
+    bits::meet(w, u, &has, document.parents.len().div_ceil(8));
 }

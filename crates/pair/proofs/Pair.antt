@@ -63,50 +63,69 @@ module _ (w up P : List ℕ) (u x c y : ℕ) (k : Climbed w up P u x c y) (l : y
       let t : OneWay w up P q.span u x ↔ (bit_at w 0 y ≡ true) = then o.1 (rw e (one_top q y (omega arith) l)) in (t.1, t.0)
 
 -- ------------------------------------------------------------------ two ways
+-- the ways from rows u and v, u on x and v on y, have been climbed up to row c on z and row e on t
+abbrev pub Meeting : List ℕ → List ℕ → List ℕ → ℕ → ℕ → ℕ → ℕ → ℕ → ℕ → ℕ → ℕ → Type 0
+Meeting w up P u x v y c z e t =
+    (mark : List ℕ) (q : Asked w mark up P) → u < q.rows → v < q.rows
+    → (c < q.rows) × (e < q.rows) × (TwoWays w up P q.span u x v y ↔ TwoWays w up P q.span c z e t)
+
+-- .. and one of them is stopped
+abbrev pub Stopped : List ℕ → List ℕ → List ℕ → ℕ → ℕ → ℕ → ℕ → Type 0
+Stopped w up P u x v y = (mark : List ℕ) (q : Asked w mark up P) → u < q.rows → v < q.rows → TwoWays w up P q.span u x v y → ⊥
+
+meeting_swap : (w up P : List ℕ) (u x v y c z e t : ℕ) → Meeting w up P u x v y c z e t → Meeting w up P v y u x e t c z
+meeting_swap w up P u x v y c z e t k mark q lv lu =
+    let o = k mark q lu lv in (o.1, o.0, then (two_swap q v y u x, two_swap q u x v y) (then o.2 (two_swap q c z e t, two_swap q e t c z)))
+
+module _ (w up P : List ℕ) (u x v y c z e t : ℕ) (k : Meeting w up P u x v y c z e t) where
+  -- the later row, c, steps up
+  pub meeting_more : e < c → z < length P → Step w c z → Meeting w up P u x v y (get_or up c 0) (get_or P z 0) e t
+  meeting_more le l s mark q lu lv =
+      let o = k mark q lu lv in
+      let f = two_step q c z e t le o.0 l in
+      let d = up_less q c (omega arith) o.0 in
+      (omega (arith, o.0), o.1, then o.2 (λ a. (f.0 a).1, λ b. f.1 (s, b)))
+
+  pub meeting_not : e < c → z < length P → (Step w c z → ⊥) → Stopped w up P u x v y
+  meeting_not le l no_step mark q lu lv a = let o = k mark q lu lv in no_step ((two_step q c z e t le o.0 l).0 (o.2.0 a)).0
+
+  -- the ways meet, on two nodes or on one
+  pub meeting_apart : c ≡ e → (z ≡ t → ⊥) → Stopped w up P u x v y
+  meeting_apart r ne mark q lu lv a = let o = k mark q lu lv in ne ((two_meet q c z e t r).0 (o.2.0 a)).0
+
+  pub meeting_all : c ≡ e → z ≡ t → (mark : List ℕ) (q : Asked w mark up P) → u < q.rows → v < q.rows
+      → (c < q.rows) × (TwoWays w up P q.span u x v y ↔ OneWay w up P q.span c z)
+  meeting_all r f mark q lu lv =
+      let o = k mark q lu lv in let m = two_meet q c z e t r in (o.0, then o.2 (λ a. (m.0 a).1, λ b. m.1 (f, b)))
+
+module _ (w up P : List ℕ) (u x v y c z e t : ℕ) (k : Meeting w up P u x v y c z e t) where
+  -- the later row, e, steps up
+  pub meeting_more_d : c < e → t < length P → Step w e t → Meeting w up P u x v y c z (get_or up e 0) (get_or P t 0)
+  meeting_more_d lc l s =
+      meeting_swap w up P v y u x (get_or up e 0) (get_or P t 0) c z
+      (meeting_more w up P v y u x e t c z (meeting_swap w up P u x v y c z e t k) lc l s)
+
+  pub meeting_not_d : c < e → t < length P → (Step w e t → ⊥) → Stopped w up P u x v y
+  meeting_not_d lc l no_step mark q lu lv a =
+      meeting_not w up P v y u x e t c z (meeting_swap w up P u x v y c z e t k) lc l no_step mark q lv lu (two_swap q u x v y a)
+
+-- ------------------------------------------------------------------ the pair
 -- the pair is selected: a question of the query and the document that the table belongs to
 abbrev Selects : (w mark up P : List ℕ) → ℕ → ℕ → Asked w mark up P → Type 0
 Selects w mark up P m n q = Takes (tree_rows q.code mark q.span q.rows) (doc_of P q.labels) m n
 
--- s has been climbed up to row u on x, and d up to row v on y
-abbrev pub Meeting : List ℕ → List ℕ → List ℕ → List ℕ → ℕ → ℕ → ℕ → ℕ → ℕ → ℕ → Type 0
-Meeting w mark up P m n u x v y =
-    (q : Asked w mark up P) → (u < q.rows) × (v < q.rows) × (Selects w mark up P m n q ↔ TwoWays w up P q.span u x v y)
+module _ {w mark up P : List ℕ} {r r' : ℕ} (a : FirstRow mark 0 r) (b : FirstRow mark 1 r') (q : Asked w mark up P) where
+  -- s and d stand in their rows
+  pub ends_inside : (r < q.rows) × (r' < q.rows)
+  ends_inside = rw (single_first mark 0 q.s a, single_first mark 1 q.d b) (q.s.inside, q.d.inside)
 
-pub meeting_none : (w mark up P : List ℕ) (m n r r' : ℕ) → FirstRow mark 0 r → FirstRow mark 1 r' → Meeting w mark up P m n r m r' n
-meeting_none w mark up P m n r r' a b q =
-    rw (single_first mark 0 q.s a, single_first mark 1 q.d b) (q.s.inside, q.d.inside, takes_two_ways q m n)
+  module _ (m n : ℕ) where
+    ends_two : Selects w mark up P m n q ↔ TwoWays w up P q.span r m r' n
+    ends_two = rw (single_first mark 0 q.s a, single_first mark 1 q.d b) (takes_two_ways q m n)
 
-meeting_swap : (w mark up P : List ℕ) (m n u x v y : ℕ) → Meeting w mark up P m n u x v y → Meeting w mark up P m n v y u x
-meeting_swap w mark up P m n u x v y k q =
-    let o = k q in (o.1, o.0, then o.2 (two_swap q u x v y, two_swap q v y u x))
+    pub pair_stopped : (TwoWays w up P q.span r m r' n → ⊥) → (false ≡ true) ↔ Selects w mark up P m n q
+    pair_stopped f = never ends_two f
 
-module _ (w mark up P : List ℕ) (m n u x v y : ℕ) (k : Meeting w mark up P m n u x v y) where
-  -- the later row, u, steps up
-  pub meeting_more : v < u → x < length P → Step w u x → Meeting w mark up P m n (get_or up u 0) (get_or P x 0) v y
-  meeting_more lv l s q =
-      let o = k q in
-      let e = two_step q u x v y lv o.0 l in
-      let d = up_less q u (omega arith) o.0 in
-      (omega (arith, o.0), o.1, then o.2 (λ a. (e.0 a).1, λ b. e.1 (s, b)))
-
-  pub meeting_not : v < u → x < length P → (Step w u x → ⊥) → (q : Asked w mark up P) → (false ≡ true) ↔ Selects w mark up P m n q
-  meeting_not lv l no_step q = let o = k q in never o.2 (λ a. no_step ((two_step q u x v y lv o.0 l).0 a).0)
-
-  -- the ways meet on one node
-  pub meeting_all : u ≡ v → x ≡ y → (r : Bool) → ((mark' : List ℕ) (q : Asked w mark' up P) → u < q.rows → (r ≡ true) ↔ OneWay w up P q.span u x)
-      → (q : Asked w mark up P) → (r ≡ true) ↔ Selects w mark up P m n q
-  meeting_all e f r c q =
-      let o = k q in
-      let one = c mark q o.0 in
-      let t = two_meet q u x v y e in
-      (λ a. o.2.1 (t.1 (f, one.0 a)), λ b. one.1 (t.0 (o.2.0 b)).1)
-
-module _ (w mark up P : List ℕ) (m n u x v y : ℕ) (k : Meeting w mark up P m n u x v y) where
-  -- the later row, v, steps up
-  pub meeting_more_d : u < v → y < length P → Step w v y → Meeting w mark up P m n u x (get_or up v 0) (get_or P y 0)
-  meeting_more_d lu l s =
-      meeting_swap w mark up P m n (get_or up v 0) (get_or P y 0) u x
-      (meeting_more w mark up P m n v y u x (meeting_swap w mark up P m n u x v y k) lu l s)
-
-  pub meeting_not_d : u < v → y < length P → (Step w v y → ⊥) → (q : Asked w mark up P) → (false ≡ true) ↔ Selects w mark up P m n q
-  meeting_not_d lu l no_step q = meeting_not w mark up P m n v y u x (meeting_swap w mark up P m n u x v y k) lu l no_step q
+    pub pair_met : (u x : ℕ) → (TwoWays w up P q.span r m r' n ↔ OneWay w up P q.span u x) → (t : Bool) → (t ≡ true) ↔ OneWay w up P q.span u x
+        → (t ≡ true) ↔ Selects w mark up P m n q
+    pair_met u x f t g = let h = then ends_two f in (λ e. h.1 (g.0 e), λ s. g.1 (h.0 s))

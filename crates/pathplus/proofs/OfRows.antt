@@ -19,7 +19,7 @@ use Rattle.rows.specs.Trees.{tree_of as tree_at}
 use Rattle.rows.specs.declared.TreeRows.{TreeRows}
 use Rattle.rows.specs.Table.{image_tree}
 use Rattle.rows.proofs.Rows.{size_rows}
-use Rattle.normal.specs.Forms.{QueryRows}
+use Rattle.normal.specs.Forms.{IsQuery}
 use Rattle.word.specs.Answer.{verdict}
 use Rattle.query.specs.Trees.{Accepted, RowsOf}
 use Rattle.forms.specs.declared.Form.{Form}
@@ -67,5 +67,5 @@ module _ (form : Form) {word : List ℕ} {t : TreeRows} (R : RowsOf (λ e. form_
           absurd (omega arith)
       go (some Q) e (v, w) = subst (λ o. QueryTree (form_tree form o)) (sym e) (form_tree_lem form Q v)
 
-  pub query_rows : QueryRows t.code t.mark t.kids t.span t.up t.len
+  pub query_rows : IsQuery t
   query_rows = record { rows = R.rows; one_src = λ pos. (rows_tree pos).source; one_dst = λ pos. (rows_tree pos).dest }

@@ -1,9 +1,8 @@
--- What the pair question asks of rows and of a document table once nothing is left to refuse, and its answer over rows.
+-- What the pair question asks of a document table once nothing is left to refuse, and its answer over rows.
 use Rattle.std.specs.Prelude.{◌≡◌, ◌↔◌, Bool, true, List, ℕ, ◌≤◌, ◌<◌, length}
 use Rattle.meaning.specs.Document.{Doc}
 use Rattle.meaning.specs.Tree.{Forest, Tag, Takes}
 use Rattle.meaning.specs.Matching.{good_table, MatchTable, table_bytes}
-use Rattle.normal.specs.Forms.{QueryRows}
 
 -- refusals 8, 9 and 10 are not due
 pub record NotRefused (parents labels : List ℕ) (m n : ℕ) (workspace : List ℕ) : Type 0 where
@@ -11,11 +10,6 @@ pub record NotRefused (parents labels : List ℕ) (m n : ℕ) (workspace : List 
   pub first : m < length parents
   pub second : n < length parents
   pub space : table_bytes ≤ length workspace
-
--- the rows of a tree query, or no rows; the numbers of children are not asked for
-pub record RowsAsked (code mark span up : List ℕ) (n : ℕ) : Type 0 where
-  pub kids : List ℕ
-  pub query : QueryRows code mark kids span up n
 
 -- yes or no, and the workspace afterwards
 pub record Taken (F : Forest Tag) (D : Doc) (m n : ℕ) (yes : Bool) (before after : List ℕ) : Type 0 where

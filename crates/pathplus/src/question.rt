@@ -5,41 +5,31 @@ ghost use Rattle.meaning.specs.Promise.{Selected};
 ghost use Rattle.meaning.specs.Word.{answered};
 ghost use Rattle.limits.specs.Refusal.{outcome_of};
 ghost use Rattle.query.specs.Trees.{Accepted};
-ghost use Rattle.rows.specs.Rows.{tree_rows};
+ghost use Rattle.rows.specs.Trees.{tree_of};
+ghost use Rattle.normal.specs.Forms.{IsQuery};
 ghost use Rattle.pathplus.specs.Answer.{question};
-ghost use Rattle.pathplus.specs.Pair.{NotRefused, RowsAsked, Taken};
+ghost use Rattle.pathplus.specs.Pair.{NotRefused, Taken};
 
 use document::table::Document;
 use limits::refusal::Refusal::{BadTable, NoSuchNode, WorkspaceTooShort};
 use limits::refusal::Refused;
-use rows::{Codes, Links, Marks, TreeRows};
+use rows::TreeRows;
 use word::whole::check_word;
 
 // The bytes of the match table: 256 rows of 128 bytes.
 const TABLE_BYTES: usize = 32768;
 
 // Whether the rows take the pair, with their match table in the workspace; no rows are empty, which selects nothing.
-fn taken(
-    code: &Codes,
-    mark: &Marks,
-    span: &Links,
-    up: &Links,
-    rows: usize,
-    document: &Document<'_>,
-    m: usize,
-    n: usize,
-    workspace: &mut [u8],
-) -> bool
-    requires { RowsAsked code.now mark.now span.now up.now rows
-        × NotRefused document.now.parents.now document.now.labels.now m n workspace.old }
-    ensures { Taken (tree_rows code.now mark.now span.now rows)
-        (doc_of document.now.parents.now document.now.labels.now) m n result workspace.old workspace.new }
+// The document, the pair and the workspace stay parameters: a struct of them would be made for `tell` alone, and `taken` would take it apart again.
+fn taken(rows: &TreeRows, document: &Document<'_>, m: usize, n: usize, workspace: &mut [u8]) -> bool
+    requires { IsQuery rows.now × NotRefused document.now.parents.now document.now.labels.now m n workspace.old }
+    ensures { Taken (tree_of rows.now) (doc_of document.now.parents.now document.now.labels.now) m n result workspace.old workspace.new }
 {
-    matching::filling::match_table(workspace, code, span, rows, document);
-    if rows == 0 {
+    matching::filling::match_table(workspace, rows, document);
+    if rows.len == 0 {
         return false;
     }
-    pair::pair_selected(workspace, mark, up, document.parents, m, n)
+    pair::pair_selected(workspace, rows, document.parents, m, n)
 }
 
 // Yes or no, once nothing is left to refuse.
@@ -50,9 +40,7 @@ fn tell(word: &[u8], document: &Document<'_>, m: usize, n: usize, workspace: &mu
 {
     let mut rows = TreeRows::none();
     query::word_rows(true, word, &mut rows);
-    taken(
-        &rows.code, &rows.mark, &rows.span, &rows.up, rows.len, document, m, n, workspace,
-    )
+    taken(&rows, document, m, n, workspace)
 }
 
 // The pair question of an accepted word: refusals 8, 9 and 10.

@@ -1,11 +1,11 @@
--- The way from u on x can be laid exactly if the way from c on y can.
+-- The way from where it starts can be laid exactly if the way from the place reached can.
 use Prim.Native.Nat.{◌<◌}
 use lib.ListN.{length}
 use Rattle.pair.proofs.Pair.{Climbed}
 use Rattle.pair.proofs.climbs.Given as goal
 
-abbrev pub invariant-loop-c : goal.invariant-loop-c
-invariant-loop-c l = (l.y < length l.parents) × Climbed l.w l.up l.parents l.u l.x l.c l.y
+abbrev pub invariant-loop-at : goal.invariant-loop-at
+invariant-loop-at l = (l.at.node < length l.parents) × Climbed l.w l.rows.up l.parents l.fn.from.row l.fn.from.node l.at.row l.at.node
 
-abbrev pub decreases-loop-c : goal.decreases-loop-c
-decreases-loop-c l = l.c
+abbrev pub decreases-loop-at : goal.decreases-loop-at
+decreases-loop-at l = l.at.row

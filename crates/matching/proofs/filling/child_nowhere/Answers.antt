@@ -1,29 +1,20 @@
 use mathlib.Core.Path.{sym, ◌∙◌}
-use native.Mathlib.Omega.{arith}
 use Rattle.bits.proofs.Bits.{row_clear_lem}
-use Rattle.rows.proofs.Rows.{row_opens}
-use Rattle.matching.proofs.Filled.{children_start, child_span, child_next, child_needed}
+use Rattle.rows.proofs.Rows.{holds_reaches}
+use Rattle.matching.proofs.Filled.{come_row, children_start, child_next, child_needed}
 use Rattle.matching.proofs.filling.child_nowhere.Goals as goal
+
+pub children-c-items-requires : goal.children-c-items-requires
+children-c-items-requires c = let (_, q, l) = c.requires in holds_reaches _ _ _ q.laid q.few _ l
 
 pub loop-c-init : goal.loop-c-init
 loop-c-init c =
-    let o = row_opens _ _ c.requires.2 _ c.requires.3 in
-    (omega arith, omega (arith, c.at.ensures.0, o.inside), rw c.at.ensures.0 (children_start _ _ _ c.requires.2 c.requires.3))
+    let (_, q, l) = c.requires in rw c.into_iter-c-iterator.ensures.into_iter_gives (children_start _ _ q l c.children-c-items.ensures)
 
 pub returns-then-row_clear : goal.returns-then-row_clear
 returns-then-row_clear c =
-    λ e. (
-      _,
-      c.loop-c.invariant.0,
-      omega (arith, c.loop-c.invariant.1, c.loop-c-test.true),
-      child_needed _ _ _ _ c.loop-c-test.true c.loop-c.invariant.2,
-      row_clear_lem _ _ (sym c.row_clear.ensures ∙ c.if-row_clear.true),
-    )
-
-pub loop-c-smaller : goal.loop-c-smaller
-loop-c-smaller c =
-    let o = child_span _ _ _ _ c.loop-c-test.true c.loop-c.invariant.2 in omega (arith, c.at-c.ensures.0, o.0, c.loop-c-test.true)
+    let g = c.in-Some.ensures.steps in let p = c.loop-c.invariant in let (a, b) = come_row _ _ c.next.new.self g p.come in
+    λ _. (_, a, b, child_needed _ _ c.next.new.self g p, row_clear_lem _ _ (sym c.row_clear.ensures ∙ c.if-row_clear.true))
 
 pub loop-c-preserved : goal.loop-c-preserved
-loop-c-preserved c =
-    (omega (arith, c.loop-c.invariant.0), c.loop-c.invariant.1, rw c.at-c.ensures.0 (child_next _ _ _ _ c.loop-c-test.true c.loop-c.invariant.2))
+loop-c-preserved c = child_next _ _ c.next.new.self c.in-Some.ensures.steps c.loop-c.invariant

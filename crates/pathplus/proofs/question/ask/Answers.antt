@@ -21,7 +21,7 @@ returns-then-nodes-m c =
 pub returns-then-workspace-lt-TABLE_BYTES : goal.returns-then-workspace-lt-TABLE_BYTES
 returns-then-workspace-lt-TABLE_BYTES c =
     rw c.at-then-workspace-lt-TABLE_BYTES.ensures
-      (selects_short _ c.requires.1 (good (goal.at.returns-then-workspace-lt-TABLE_BYTES c).In-Some) (omega arith) (omega arith) (omega arith))
+    (selects_short _ c.requires.1 (good (goal.at.returns-then-workspace-lt-TABLE_BYTES c).In-Some) (omega arith) (omega arith) (omega arith))
 
 pub tell-requires : goal.tell-requires
 tell-requires c =

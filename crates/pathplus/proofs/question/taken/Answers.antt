@@ -3,7 +3,7 @@ use Rattle.pathplus.proofs.Pairs.{none_taken, may_ask, pair_taken}
 use Rattle.pathplus.proofs.question.taken.Goals as goal
 
 pub returns-then-rows-eq0 : goal.returns-then-rows-eq0
-returns-then-rows-eq0 c = none_taken _ _ _ c.if-rows-eq0.true (c.match_table.ensures _)
+returns-then-rows-eq0 c = none_taken c.args.rows.now c.if-rows-eq0.true (c.match_table.ensures _)
 
 pub pair_selected-requires : goal.pair_selected-requires
 pair_selected-requires c =

@@ -5,9 +5,7 @@ use Rattle.pathplus.proofs.OfRows.{query_rows}
 use Rattle.pathplus.proofs.question.tell.Goals as goal
 
 pub taken-requires : goal.taken-requires
-taken-requires c =
-    let (acc, N) = c.requires in
-    (record { kids = _; query = query_rows Minimal c.word_rows.ensures acc }, N)
+taken-requires c = let (acc, N) = c.requires in (query_rows Minimal c.word_rows.ensures acc, N)
 
 pub returns : goal.returns
 returns c =
