@@ -4,7 +4,7 @@ use mathlib.Core.Path.{◌≡◌, refl, sym, ap, ◌∙◌}
 use mathlib.Core.List.{List, [], ◌∷◌, ◌++◌}
 use Prim.Native.Nat.{ℕ, suc, ◌+◌, ◌≤◌}
 use native.Mathlib.Omega.{arith}
-use lib.ListN.{length, set, drop, length-append}
+use lib.ListN.{length, set, drop}
 use lib.Seq.{length-sets, sets-eq}
 use Rattle.groups.specs.Put.{put, Written}
 
@@ -16,20 +16,11 @@ pub put_nil : (d : List ℕ) (at : ℕ) → put d at [] ≡ d
 unfolding put
 put_nil d at = refl
 
-pub put_one : (d : List ℕ) (at b : ℕ) → put d at (b ∷ []) ≡ set d at b
-unfolding put
-put_one d at b = refl
-
 pub put_append : (d : List ℕ) (at : ℕ) (xs ys : List ℕ) → put d at (xs ++ ys) ≡ put (put d at xs) (at + length xs) ys
 unfolding put
 put_append d at [] ys = let z : at + 0 ≡ at = omega arith in rw z
 put_append d at (x ∷ xs) ys =
     let z : at + suc (length xs) ≡ suc at + length xs = omega arith in rw z (put_append (set d at x) (suc at) xs ys)
-
--- ys written behind xs, into the room that xs were written into
-pub put_then : (d d₁ : List ℕ) (at at₁ : ℕ) (xs ys : List ℕ) → d₁ ≡ put d at xs → at₁ ≡ at + length xs
-    → put d₁ at₁ ys ≡ put d at (xs ++ ys)
-put_then d d₁ at at₁ xs ys e l = rw (e, l) (sym (put_append d at xs ys))
 
 -- "the first n bytes of the room are the answer and the later ones keep their values"
 pub put_front : (d bs : List ℕ) → length bs ≤ length d → put d 0 bs ≡ bs ++ drop (length bs) d
@@ -37,25 +28,8 @@ unfolding put
 put_front d bs le = let z : 0 + length bs ≡ length bs = omega arith in rw z at (sets-eq bs d 0 (omega arith))
 
 -- ------------------------------------------------------------------ a writing and the place behind it
-pub written_nil : (d : List ℕ) (at : ℕ) → Written d at [] d at
-written_nil d at = record { place = omega arith; bytes = sym (put_nil d at) }
-
-pub written_is : {d bs bs' e : List ℕ} {at r : ℕ} → bs ≡ bs' → Written d at bs e r → Written d at bs' e r
-written_is q w = rw q at w
-
--- two writings, one after the other
-pub written_then : {d xs d₁ ys d₂ : List ℕ} {at a r : ℕ} → Written d at xs d₁ a → Written d₁ a ys d₂ r → Written d at (xs ++ ys) d₂ r
-written_then {d} {xs} {d₁} {ys} {d₂} {at} {a} {r} v w =
-    record {
-      place = omega (arith, v.place, w.place, length-append xs ys);
-      bytes = w.bytes ∙ rw (v.bytes, v.place) (sym (put_append d at xs ys));
-    }
-
 pub written_length : {d bs e : List ℕ} {at r : ℕ} → Written d at bs e r → length e ≡ length d
 written_length {d} {bs} {e} {at} w = ap length w.bytes ∙ length_put d at bs
-
-pub written_reached : {d bs e : List ℕ} {from at r : ℕ} → from ≤ at → Written d at bs e r → from ≤ r
-written_reached {from = from} {at = at} {r = r} l w = omega (arith, w.place)
 
 -- "no second answer fits"
 pub written_unique : {d bs e e' : List ℕ} {at r r' : ℕ} → Written d at bs e r → Written d at bs e' r' → (r ≡ r') × (e ≡ e')

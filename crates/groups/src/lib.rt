@@ -1,10 +1,8 @@
-// Bytes into a lent room: one byte, or a number "in seven-bit groups, the shortest writing". Each of these functions says where the next byte goes;
-// a writer keeps that place beside the room.
+// Bytes into a lent room: one byte, or a number "in seven-bit groups, the shortest writing". A writer keeps beside the room where the next byte goes.
 #![tactic(auto)]
 
-ghost use Rattle.std.specs.Prelude.{◌≡◌, [], ◌∷◌, ◌+◌, ◌<◌, ◌≤◌, length};
+ghost use Rattle.std.specs.Prelude.{◌≡◌, [], ◌∷◌, ◌<◌, length};
 ghost use Rattle.meaning.specs.Number.{num};
-ghost use Rattle.groups.specs.Put.{put};
 ghost use Rattle.groups.specs.Filled.{filled, Fits};
 
 // "The caller's room together with the number of bytes already filled."
@@ -52,28 +50,4 @@ pub fn number_length(x: u32) -> usize
         bytes += 1;
     }
     bytes
-}
-
-pub fn put_byte(out: &mut [u8], at: usize, b: u8) -> usize
-    requires { at < length out.old }
-    ensures place { result ≡ at + 1 }
-    ensures bytes { out.new ≡ put out.old at (b ∷ []) }
-{
-    out[at] = b;
-    at + 1
-}
-
-// "Low group first; a byte's top bit is set when another group follows."
-pub fn put_number(out: &mut [u8], at: usize, x: u32) -> usize
-    requires { at + length (num x) ≤ length out.old }
-    ensures place { result ≡ at + length (num x) }
-    ensures bytes { out.new ≡ put out.old at (num x) }
-{
-    let mut rest = x;
-    let mut place = at;
-    while 128 <= rest {
-        place = put_byte(out, place, (128 + rest % 128) as u8);
-        rest = rest / 128;
-    }
-    put_byte(out, place, rest as u8)
 }

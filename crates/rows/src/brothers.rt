@@ -35,24 +35,16 @@ impl<'a> Iterator for Brothers<'a> {
     }
 }
 
-// The children of row u.
-pub fn children(span: &Links, u: usize) -> Brothers<'_>
-    requires { Reaches span.now u }
-    ensures { (result.next ≡ u + 1) × (result.end ≡ u + get_or span.now u 0) × (result.span.now ≡ span.now) }
-{
-    Brothers {
-        span,
-        next: u + 1,
-        end: u + at(span, u),
-    }
-}
-
 impl TreeRows {
     // The children of row u.
     pub fn children(&self, u: usize) -> Brothers<'_>
         requires { Reaches self.now.span u }
         ensures { (result.next ≡ u + 1) × (result.end ≡ u + get_or self.now.span u 0) × (result.span.now ≡ self.now.span) }
     {
-        children(&self.span, u)
+        Brothers {
+            span: &self.span,
+            next: u + 1,
+            end: u + at(&self.span, u),
+        }
     }
 }

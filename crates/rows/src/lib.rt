@@ -75,15 +75,6 @@ pub fn set_link(t: &mut [u16], i: usize, v: usize)
     t[i] = v as u16;
 }
 
-// Row x lies at or below row c.
-#[tactic(auto, unfolding(crate::specs::Rows::covers))]
-pub fn holds(span: &Links, c: usize, x: usize) -> bool
-    requires { c < most_nodes }
-    ensures { result ≡ covers span.now c x }
-{
-    c <= x && x < c + at(span, c)
-}
-
 // The first row that bears the mark: bit S or bit D.
 pub fn row_of(mark: &Marks, bit: usize) -> usize
     requires { (bit < 8) × Borne mark.now bit }
@@ -113,10 +104,11 @@ impl TreeRows {
     }
 
     // Row x lies at or below row c.
+    #[tactic(auto, unfolding(crate::specs::Rows::covers))]
     pub fn holds(&self, c: usize, x: usize) -> bool
         requires { c < most_nodes }
         ensures { result ≡ covers self.now.span c x }
     {
-        holds(&self.span, c, x)
+        c <= x && x < c + at(&self.span, c)
     }
 }
