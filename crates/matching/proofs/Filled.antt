@@ -72,12 +72,12 @@ module _ (t : TreeRows) (u : ℕ) where
           },
         )
 
--- row u while its children are still to come: what is left of it, and those children, say where u can be laid
 module _ (code span P L : List ℕ) where
   -- the brothers can be laid on children of v
   abbrev Below : Forest ℕ → ℕ → Type 0
   Below F v = Lays (doc_of P L) (OnLabel (doc_of P L)) (map_t (tag_at code []) F) (some v)
 
+-- row u while its children are still to come: what is left of it, and those children, say where u can be laid
 pub record Partly (t : TreeRows) (d : Document) (u : ℕ) (b : Brothers) (w : List ℕ) : Type 0 where
   pub rest : Forest ℕ
   pub come : ToCome t u b rest
