@@ -1,5 +1,6 @@
 // Rows of bits in lent bytes: bit v of row u is "bit v mod 8 of byte 128u + v div 8 (lowest bit is 0)".
-// A match table has 256 such rows, a row of its own has one; both are read and written by the same functions.
+// A match table has 256 such rows, a row of its own has one; both are read and written by the same functions. So bytes and the number of a row stay
+// apart, with their clause: a type of 256 rows would ask for more (docs/PROMISES.md names these functions).
 #![tactic(auto)]
 
 ghost use Rattle.std.specs.Prelude.{◌≡◌, ◌&&◌, ℕ, ◌+◌, ◌*◌, ◌≤◌, ◌<◌, length, get_or, eqb};

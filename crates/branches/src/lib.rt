@@ -1,5 +1,6 @@
 // Branches and a node's own factors, written behind what the writer has. Factors are joined from the left: the first of them went to place `from`, so
-// a factor that goes to a later place is followed by the sign of composition.
+// a factor that goes to a later place is followed by the sign of composition. A row is told by its tree and its number: a type of both, with `IsRow`
+// for its invariant, would be made anew for each child.
 #![tactic(auto)]
 
 ghost use Rattle.std.specs.Prelude.{◌||◌, [], ◌∷◌, suc, ◌+◌, ◌<◌, ◌≤◌, ◌≡◌, length, get_or, ltb};

@@ -1,6 +1,7 @@
 // The folding test: "u folds onto v when u's label is a wildcard or equals v's, u's marks are among v's, and every child of u folds onto some child
 // of v", over rows in image order of which some have gone. Row u stands in one tree and row v in another: brothers of one tree are held against each
-// other by lending it twice.
+// other by lending it twice. A row is told by its tree and its number: a type of both, with `Stands` for its invariant, would be made anew for each
+// child.
 #![tactic(auto)]
 
 ghost use Rattle.std.specs.Prelude.{◌≡◌, ◌<◌};

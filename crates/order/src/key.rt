@@ -30,5 +30,5 @@ pub fn key_of(l: u32, m: u8, c: u16) -> u64
     requires { l < 2097152 }
     ensures { result ≡ key_of l m c }
 {
-    (bytes_of(l as u64) * 256 + m as u64) * 16777216 + bytes_of(c as u64)
+    (bytes_of(u64::from(l)) * 256 + u64::from(m)) * 16777216 + bytes_of(u64::from(c))
 }

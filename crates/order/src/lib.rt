@@ -18,7 +18,8 @@ pub use children::Lists;
 use limits::most::MOST_NODES;
 use rows::{Marks, TreeRows};
 
-// The first n rows of a table of parents: parent[i] is the row of i's parent, and NO_ROW at the top; code[i] and mark[i] are what row i bears.
+// The first n rows of a table of parents: parent[i] is the row of i's parent, and NO_ROW at the top; code[i] and mark[i] are what row i bears. That
+// they are a tree is a clause and no invariant: `image_rows` and `tree_rows`, which docs/PROMISES.md names, take any slices of which it holds.
 #[derive(Clone, Copy)]
 pub struct Table<'a> {
     pub parent: &'a [u16],

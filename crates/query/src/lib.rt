@@ -12,7 +12,8 @@ use pool::build::{POOL_ROWS, build};
 use rows::TreeRows;
 use tree::{Lists, Query, query_rows};
 
-// The plain tree, or the minimal tree, as rows in image order.
+// The plain tree, or the minimal tree, as rows in image order. That the word is accepted is a clause and no type: `word_rows` and `build`, which
+// docs/PROMISES.md names, take any bytes of which it holds.
 pub fn word_rows(folded: bool, word: &[u8], rows: &mut TreeRows)
     requires { Accepted word.now }
     ensures { RowsOf (λ e. image_tree folded (plain e)) word.now rows.new }

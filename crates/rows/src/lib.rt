@@ -22,7 +22,8 @@ pub type Codes = [u32; MOST_NODES];
 // A mark for each node.
 pub type Marks = [u8; MOST_NODES];
 
-// A tree in image order: the first `len` rows, and no rows for empty. It is lent and never copied: it takes some kilobytes.
+// A tree in image order: the first `len` rows, and no rows for empty. It is lent and never copied: it takes some kilobytes. It has no invariant: it is
+// filled, folded and put in order in its place, and what reads it takes it from whoever has the fact (`IsTree`, `IsQuery`; docs/PROMISES.md names them).
 #[derive(Drop)]
 pub struct TreeRows {
     pub code: Codes,
@@ -48,7 +49,7 @@ pub const GONE: usize = 7;
 pub fn wide(p: u16) -> usize
     ensures { (result ≡ p) × (result < 65536) }
 {
-    p as usize
+    usize::from(p)
 }
 
 // What stands at i: a link, a span or a count.

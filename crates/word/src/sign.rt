@@ -9,7 +9,8 @@ pub const FIRST_LABEL: u32 = 9;
 
 pub const LARGEST_SIGN: u32 = FIRST_LABEL + LARGEST_LABEL;
 
-// The signs in the order of their numbers.
+// The signs in the order of their numbers. A label is any number here, and `Numbered` a clause where its sign is written: with labels of 16 bits the
+// conversion could fail, and each sign of an accepted word would be unwrapped with a proof.
 #[derive(Clone, Copy, PartialEq, Eq)]
 pub enum Sign {
     Empty,
