@@ -28,17 +28,6 @@ pub fn join(w: &mut Writer, from: usize, at: usize)
     }
 }
 
-// A factor of one sign.
-#[tactic(auto, using(crate::proofs::Joining::fits_rest, crate::proofs::Joining::filled_both))]
-pub fn put_sign(w: &mut Writer, from: usize, sign: Sign)
-    requires { Numbered sign × Fits w.old (factor from w.old.length (num (number_of sign))) }
-    ensures { w.new ≡ filled w.old (factor from w.old.length (num (number_of sign))) }
-{
-    let at = w.length;
-    w.put_number(sign.number());
-    join(w, from, at);
-}
-
 // The factors that went to place `at` are put under a projection, and that is joined to what stands before it.
 #[tactic(auto, using(crate::proofs::Joining::fits_rest, crate::proofs::Joining::filled_both))]
 pub fn project(w: &mut Writer, from: usize, at: usize, projection: Sign)
@@ -47,6 +36,15 @@ pub fn project(w: &mut Writer, from: usize, at: usize, projection: Sign)
 {
     w.put_number(projection.number());
     join(w, from, at);
+}
+
+// A factor of one sign.
+pub fn put_sign(w: &mut Writer, from: usize, sign: Sign)
+    requires { Numbered sign × Fits w.old (factor from w.old.length (num (number_of sign))) }
+    ensures { w.new ≡ filled w.old (factor from w.old.length (num (number_of sign))) }
+{
+    let at = w.length;
+    project(w, from, at, sign);
 }
 
 // "its label, if any": code L + 1 is the sign 9 + L
