@@ -30,11 +30,10 @@ pub shifted_small : (p : ℕ) → p ≢ no_row → ((q : ℕ) → parent_of p �
 shifted_small p ne f = f p (parent_some p ne)
 
 -- ------------------------------------------------------------------ all links of the second table
-pub shift_small : (P₀ : List ℕ) (na nb i : ℕ) (P : List ℕ) → Swept (Relinked (λ q. na + q)) 0 na i P₀ P → na ≤ i → i < na + nb
-    → ((j p : ℕ) → j < nb → parent_of (get_or (drop na P₀) j 0) ≡ some p → p < pool_rows) → (q : ℕ) → parent_of (get_or P i 0) ≡ some q → q < pool_rows
-shift_small P₀ na nb i P h ni lt f q e =
-    f (i - na) q (omega arith)
-    (ap parent_of (get_or-drop na P₀ (i - na) 0 ∙ ap (λ z. get_or P₀ z 0) (let z : na + (i - na) ≡ i = omega arith in z) ∙ sym (h.rest i (omega arith))) ∙ e)
+pub shift_small : (P : List ℕ) (na nb : ℕ) → ((j p : ℕ) → j < nb → parent_of (get_or (drop na P) j 0) ≡ some p → p < pool_rows)
+    → (i : ℕ) → na ≤ i → i < na + nb → (q : ℕ) → parent_of (get_or P (i + 0) 0) ≡ some q → q < pool_rows
+shift_small P na nb f i ni lt q e =
+    f (i - na) q (omega arith) (ap parent_of (get_or-drop na P (i - na) 0 ∙ ap (λ z. get_or P z 0) (let z : na + (i - na) ≡ i + 0 = omega arith in z)) ∙ e)
 
 pub shift_end : (P₀ L : List ℕ) (na nb : ℕ) (P : List ℕ) → Swept (Relinked (λ q. na + q)) 0 na (na + nb) P₀ P
     → table (na + nb) P L ≡ join (table na P₀ L) (table nb (drop na P₀) (drop na L))

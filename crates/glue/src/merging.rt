@@ -85,13 +85,14 @@ pub fn or_else(u: u16, v: u16) -> u16
     u
 }
 
-// The links of the rows from `from` to `end` become those of the rows `gap` further on, renumbered.
-fn relink_rows(parent: &mut [u16], from: usize, end: usize, gap: usize, x: u16, y: u16)
-    requires { (from ≤ end) × (gap ≤ 1) × (end + gap ≤ length parent.old) × (x < no_row) × (y < no_row) }
-    ensures { Swept (Relinked (moved x y)) gap from end parent.old parent.new }
+// The links of the rows from `from` to `end` become, each by the rule, those of the rows `gap` further on.
+pub fn sweep<F: Fn(u16) -> u16>(parent: &mut [u16], from: usize, end: usize, gap: usize, rule: F)
+    requires sizes { (from ≤ end) × (end + gap ≤ length parent.old) }
+    requires callable { (i : ℕ) → from ≤ i → i < end → F.pre rule (get_or parent.old (i + gap) 0) }
+    ensures { Swept (F.post rule) gap from end parent.old parent.new }
 {
     for i in from..end {
-        let p = relinked(x, y, parent[i + gap]);
+        let p = rule(parent[i + gap]);
         parent[i] = p;
     }
 }
@@ -126,8 +127,9 @@ pub fn merge_rows(
     let last = n - 1;
     let a = x as u16;
     let b = y as u16;
-    relink_rows(parent, from, y, 0, a, b);
-    relink_rows(parent, y, last, 1, a, b);
+    let rule = |p| relinked(a, b, p);
+    sweep(parent, from, y, 0, rule);
+    sweep(parent, y, last, 1, rule);
     pull_labels(label, y, last);
     let z = renumber(x, y, x);
     parent[z] = relinked(a, b, u);

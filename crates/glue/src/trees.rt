@@ -11,7 +11,7 @@ ghost use Rattle.glue.specs.Levels.{marked, marked_at, joined_of};
 ghost use Rattle.glue.specs.Trees.{query_from, kept, rows_in, built_of, built_from, chosen, InTree, within_of};
 
 use crate::levels::{Joined, glue_rows};
-use crate::merging::row_above;
+use crate::merging::{row_above, sweep};
 use rows::NO_ROW;
 
 // A tree query that was built: its number of rows and its two marks. What may be empty is an `Option` of it.
@@ -51,12 +51,8 @@ fn shift_rows(parent: &mut [u16], na: usize, nb: usize)
     ensures { (L : List ℕ) → table (na + nb) parent.new L
         ≡ join (table na parent.old L) (table nb (drop na parent.old) (drop na L)) }
 {
-    let end = na + nb;
     let k = na as u16;
-    for i in na..end {
-        let p = shifted(k, parent[i]);
-        parent[i] = p;
-    }
+    sweep(parent, na, na + nb, 0, |p| shifted(k, p));
 }
 
 // "Composition glues the first's d to the second's s; intersection glues s to s".

@@ -1,10 +1,11 @@
 use native.Mathlib.Omega.{arith}
-use Rattle.glue.proofs.Sweeping.{swept_end}
+use Rattle.std.proofs.Common.{rules}
+use Rattle.glue.proofs.Sweeping.{swept_by}
 use Rattle.glue.proofs.Shift.{shift_small, shift_end}
 use Rattle.glue.proofs.trees.shift_rows.Goals as goal
 
-pub shifted-p-requires : goal.shifted-p-requires
-shifted-p-requires c = (omega arith, shift_small _ _ _ _ _ c.loop-i.invariant.3 c.loop-i.invariant.0 c.loop-i-test.true c.requires.low_links)
+pub sweep-requires-clause-callable : goal.sweep-requires-clause-callable
+sweep-requires-clause-callable c i ge lt = let s = shift_small _ _ _ c.requires.low_links i ge lt in search (rules, arith, s)
 
 pub returns : goal.returns
-returns c L = shift_end _ L _ _ _ (swept_end _ _ _ _ _ _ _ c.loop-i.invariant.3 (omega arith))
+returns c L = shift_end _ L _ _ _ (swept_by (λ p r e. search rules) c.sweep.ensures)
