@@ -92,8 +92,7 @@ pub fn sweep<F: Fn(u16) -> u16>(parent: &mut [u16], from: usize, end: usize, gap
     ensures { Swept (F.post rule) gap from end parent.old parent.new }
 {
     for i in from..end {
-        let p = rule(parent[i + gap]);
-        parent[i] = p;
+        parent[i] = rule(parent[i + gap]);
     }
 }
 
@@ -132,6 +131,6 @@ pub fn merge_rows(
     sweep(parent, y, last, 1, rule);
     pull_labels(label, y, last);
     let z = renumber(x, y, x);
-    parent[z] = relinked(a, b, u);
+    parent[z] = rule(u);
     label[z] = l;
 }
