@@ -105,7 +105,7 @@ row_of_x P₀ L₀ x y n P L z p u l len_p len_l done ne lx ly np nl ez el =
 
 -- the links up to y are renumbered where they stand, those behind y come one row down, and so do the labels there
 module _ (P₀ L₀ P₁ P L : List ℕ) (x y from last : ℕ) (first : (i p : ℕ) → i < from → parent_of (get_or P₀ i 0) ≡ some p → p < from)
-    (up : Swept (Relinked (moved x y)) 0 from y P₀ P₁) (down : Swept (Relinked (moved x y)) 1 y last P₁ P) (labels : Swept ◌≡◌ 1 y last L₀ L) where
+    (up : Swept 0 (Relinked (moved x y)) 0 from y P₀ P₁) (down : Swept 0 (Relinked (moved x y)) 1 y last P₁ P) (labels : Swept 0 ◌≡◌ 1 y last L₀ L) where
   row_low : from ≤ y → (k : ℕ) → k < y → row_at P L k ≡ relink (moved x y) (row_at P₀ L₀ (back y k))
   row_low le k lt =
       rw (← before_low y k lt, labels.low k lt, down.low k lt)

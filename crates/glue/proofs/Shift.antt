@@ -7,6 +7,7 @@ use Prim.Native.Nat.{ℕ, ◌+◌, ◌-◌, ◌≤◌, ◌<◌}
 use native.Mathlib.Omega.{arith}
 use lib.ListN.{length, get_or, drop}
 use lib.Seq.{get_or-drop}
+use Rattle.std.proofs.lemmas.List.{get_or_default}
 use Rattle.meaning.specs.Basics.{mapped}
 use Rattle.meaning.specs.TreeQuery.{node, Table, at, Tree}
 use Rattle.meaning.specs.Gluing.{relink, shift, join}
@@ -30,12 +31,13 @@ pub shifted_small : (p : ℕ) → p ≢ no_row → ((q : ℕ) → parent_of p �
 shifted_small p ne f = f p (parent_some p ne)
 
 -- ------------------------------------------------------------------ all links of the second table
-pub shift_small : (P : List ℕ) (na nb : ℕ) → ((j p : ℕ) → j < nb → parent_of (get_or (drop na P) j 0) ≡ some p → p < pool_rows)
-    → (i : ℕ) → na ≤ i → i < na + nb → (q : ℕ) → parent_of (get_or P (i + 0) 0) ≡ some q → q < pool_rows
-shift_small P na nb f i ni lt q e =
-    f (i - na) q (omega arith) (ap parent_of (get_or-drop na P (i - na) 0 ∙ ap (λ z. get_or P z 0) (let z : na + (i - na) ≡ i + 0 = omega arith in z)) ∙ e)
+pub shift_small : (P : List ℕ) (na nb : ℕ) → na + nb ≤ length P → ((j p : ℕ) → j < nb → parent_of (get_or (drop na P) j 0) ≡ some p → p < pool_rows)
+    → (z i : ℕ) → na ≤ i → i < na + nb → (q : ℕ) → parent_of (get_or P (i + 0) z) ≡ some q → q < pool_rows
+shift_small P na nb len f z i ni lt q e =
+    f (i - na) q (omega arith)
+    (ap parent_of (get_or-drop na P (i - na) 0 ∙ ap (λ k. get_or P k 0) (let k : na + (i - na) ≡ i + 0 = omega arith in k) ∙ get_or_default P (i + 0) 0 z (omega arith)) ∙ e)
 
-pub shift_end : (P₀ L : List ℕ) (na nb : ℕ) (P : List ℕ) → Swept (Relinked (λ q. na + q)) 0 na (na + nb) P₀ P
+pub shift_end : (P₀ L : List ℕ) (na nb : ℕ) (P : List ℕ) → Swept 0 (Relinked (λ q. na + q)) 0 na (na + nb) P₀ P
     → table (na + nb) P L ≡ join (table na P₀ L) (table nb (drop na P₀) (drop na L))
 shift_end P₀ L na nb P h = table_is (na + nb) P L (join A B) len (λ k lt. go k lt (side_of A k))
   where

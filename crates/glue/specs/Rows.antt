@@ -9,12 +9,12 @@ use Rattle.rows.specs.Table.{parent_of}
 abbrev pub Relinked : (ℕ → ℕ) → ℕ → ℕ → Type 0
 Relinked f p r = parent_of r ≡ mapped f (parent_of p)
 
--- each entry from a up to i comes by R from the old one `gap` further on, and all others are as they were
-pub record Swept (R : ℕ → ℕ → Type 0) (gap a i : ℕ) (old new : List ℕ) : Type 0 where
+-- each entry from a up to i comes by R from the old one `gap` further on, and all others are as they were; z stands behind the end
+pub record Swept {A : Type 0} (z : A) (R : A → A → Type 0) (gap a i : ℕ) (old new : List A) : Type 0 where
   pub same : length new ≡ length old
-  pub low : (k : ℕ) → k < a → get_or new k 0 ≡ get_or old k 0
-  pub done : (k : ℕ) → a ≤ k → k < i → R (get_or old (k + gap) 0) (get_or new k 0)
-  pub rest : (k : ℕ) → i ≤ k → get_or new k 0 ≡ get_or old k 0
+  pub low : (k : ℕ) → k < a → get_or new k z ≡ get_or old k z
+  pub done : (k : ℕ) → a ≤ k → k < i → R (get_or old (k + gap) z) (get_or new k z)
+  pub rest : (k : ℕ) → i ≤ k → get_or new k z ≡ get_or old k z
 
 -- the most rows that are in use at once: an operand has at most one more than it has steps, so 255 steps and 256 pending operands have 511
 abbrev pub pool_rows : ℕ

@@ -85,24 +85,20 @@ pub fn or_else(u: u16, v: u16) -> u16
     u
 }
 
-// The links of the rows from `from` to `end` become, each by the rule, those of the rows `gap` further on.
-pub fn sweep<F: Fn(u16) -> u16>(parent: &mut [u16], from: usize, end: usize, gap: usize, rule: F)
-    requires sizes { (from ≤ end) × (end + gap ≤ length parent.old) }
-    requires callable { (i : ℕ) → from ≤ i → i < end → F.pre rule (get_or parent.old (i + gap) 0) }
-    ensures { Swept (F.post rule) gap from end parent.old parent.new }
+// The entries from `from` to `end`, links or labels, become, each by the rule, those `gap` further on.
+pub fn sweep<T: Copy, F: Fn(T) -> T>(
+    entries: &mut [T],
+    from: usize,
+    end: usize,
+    gap: usize,
+    rule: F,
+)
+    requires sizes { (from ≤ end) × (end + gap ≤ length entries.old) }
+    requires callable { (z : _) (i : ℕ) → from ≤ i → i < end → F.pre rule (get_or entries.old (i + gap) z) }
+    ensures { (z : _) → Swept z (F.post rule) gap from end entries.old entries.new }
 {
     for i in from..end {
-        parent[i] = rule(parent[i + gap]);
-    }
-}
-
-// The labels of the rows from y to `last` become those of the next rows. A loop: `copy_within` has one for each direction, and gluing was slower with it.
-fn pull_labels(label: &mut [u32], y: usize, last: usize)
-    requires { (y ≤ last) × (last < length label.old) }
-    ensures { Swept ◌≡◌ 1 y last label.old label.new }
-{
-    for i in y..last {
-        label[i] = label[i + 1];
+        entries[i] = rule(entries[i + gap]);
     }
 }
 
@@ -129,7 +125,8 @@ pub fn merge_rows(
     let rule = |p| relinked(a, b, p);
     sweep(parent, from, y, 0, rule);
     sweep(parent, y, last, 1, rule);
-    pull_labels(label, y, last);
+    // No `copy_within`: it has a loop for each direction, and gluing was slower with it.
+    sweep(label, y, last, 1, |l| l);
     let z = renumber(x, y, x);
     parent[z] = rule(u);
     label[z] = l;
