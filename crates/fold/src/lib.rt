@@ -64,7 +64,7 @@ pub fn keep_rows(t: &mut TreeRows, parent: &mut Links) -> usize
 {
     let mut i: usize = 0;
     let mut j: usize = 0;
-    // (4) no `for`: a row that has gone is stepped over with all below it, and the rows change meanwhile, so no iterator over them can be held
+    // no `for`: a row that has gone is stepped over with all below it, and the rows change meanwhile, so no iterator over them can be held
     while i < t.len {
         if is_gone(&t.mark, i) {
             i += at(&t.span, i);
