@@ -13,10 +13,10 @@ use Rattle.meaning.specs.Expression.{Expr, empty, self, child, parent, label, co
 use Rattle.meaning.specs.Number.{num_f, num}
 use Rattle.meaning.specs.Normal.{joined, all, word_of}
 use Rattle.groups.specs.declared.Writer.{Writer}
-use Rattle.groups.specs.Filled.{filled}
+use Rattle.groups.specs.Filled.{filled, Fits}
 use Rattle.groups.proofs.Put.{length_put}
 use Rattle.groups.proofs.Filled.{filled_then, filled_nil}
-use Rattle.branches.specs.Joining.{joint, run, fill, factor, Fits, Takes, filled_by}
+use Rattle.branches.specs.Joining.{joint, run, fill, factor, Takes, filled_by}
 
 -- ------------------------------------------------------------------ words and their bytes
 num_some : (n : ℕ) → 1 ≤ length (num n)

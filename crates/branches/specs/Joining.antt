@@ -1,9 +1,9 @@
 -- Factors as bytes, "joined from the left (x y 4 z 4)", in a room that has some of them already.
-use Rattle.std.specs.Prelude.{Bool, true, cond, List, [], ◌∷◌, ◌++◌, ℕ, ◌+◌, ◌≤◌, length, ltb}
+use Rattle.std.specs.Prelude.{Bool, true, cond, List, [], ◌∷◌, ◌++◌, ℕ, ltb}
 use Rattle.meaning.specs.Expression.{Expr}
 use Rattle.meaning.specs.Normal.{word_of}
 use Rattle.groups.specs.declared.Writer.{Writer}
-use Rattle.groups.specs.Filled.{filled}
+use Rattle.groups.specs.Filled.{filled, Fits}
 
 -- the sign that joins a factor to those before it; the first of all is joined to nothing
 abbrev pub joint : Bool → List ℕ
@@ -23,11 +23,7 @@ fill from at xs = run (ltb from at) xs
 abbrev pub factor : ℕ → ℕ → List ℕ → List ℕ
 factor from at bs = bs ++ joint (ltb from at)
 
--- the room has so many bytes more
-abbrev pub Fits : Writer → List ℕ → Type 0
-Fits w bs = w.length + length bs ≤ length w.room.now
-
--- the same of some factors, where the first factor of all went to place `from`
+-- the room has so many bytes more as some factors take, where the first factor of all went to place `from`
 abbrev pub Takes : ℕ → Writer → List Expr → Type 0
 Takes from w xs = Fits w (fill from w.length xs)
 

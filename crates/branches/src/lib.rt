@@ -1,6 +1,7 @@
 // Branches and a node's own factors, written behind what the writer has. Factors are joined from the left: the first of them went to place `from`, so
 // a factor that goes to a later place is followed by the sign of composition. A row is told by its tree and its number: a type of both, with `IsRow`
-// for its invariant, would be made anew for each child.
+// for its invariant, would be made anew for each child. `from` goes beside the writer and not into it: each branch starts a chain with a first of its
+// own.
 #![tactic(auto)]
 
 ghost use Rattle.std.specs.Prelude.{◌||◌, [], ◌∷◌, suc, ◌+◌, ◌<◌, ◌≤◌, ◌≡◌, length, get_or, ltb};
@@ -9,8 +10,8 @@ ghost use Rattle.meaning.specs.Number.{num, largest_label};
 ghost use Rattle.meaning.specs.Normal.{branch as branchOf};
 ghost use Rattle.rows.specs.Rows.{covers};
 ghost use Rattle.word.specs.Sign.{number_of, Numbered};
-ghost use Rattle.groups.specs.Filled.{filled};
-ghost use Rattle.branches.specs.Joining.{joint, factor, Fits, Takes, filled_by};
+ghost use Rattle.groups.specs.Filled.{filled, Fits};
+ghost use Rattle.branches.specs.Joining.{joint, factor, Takes, filled_by};
 ghost use Rattle.branches.specs.Factors.{IsRow, label_at, chain_at, own_at};
 
 use groups::Writer;

@@ -11,7 +11,8 @@ ghost use Rattle.brothers.specs.Brothers.{Listed, Searchable, FirstFoldable, Tak
 use onto::{folds_onto, gone, is_gone};
 use rows::{Marks, Starts, TreeRows, wide};
 
-// Lists the children of row p that are still there. Returns how many there are. A row is stored first and then counted, which spares a branch.
+// Lists the children of row p that are still there. Returns how many there are. A row is stored first and then counted, which spares a branch. The
+// list is a table and the number k beside it, here and below: a table is lent as one pointer (docs/DECISIONS.md, "Tables of one number a node").
 fn list_children(t: &TreeRows, p: usize, child: &mut Starts) -> usize
     requires { Stands (nodes_of t.now) p }
     ensures { Listed t.now.mark t.now.span p child.new result }

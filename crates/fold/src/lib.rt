@@ -22,14 +22,14 @@ pub fn fold_rows(t: &mut TreeRows, child: &mut Starts)
     }
 }
 
-// The new number of row i's parent.
+// The new number of row i's parent: the new places of rows are noted where their numbers of children were.
 #[tactic(auto, using(crate::proofs::Moved::parent_top, crate::proofs::Moved::parent_row))]
-fn parent_moved(up: &Links, moved: &Links, i: usize) -> u16
-    requires { (i < most_nodes) × ((get_or up.now i 0 ≡ no_row) ⊎ (get_or up.now i 0 < most_nodes)) }
-    ensures { result ≡ parent_moved up.now moved.now i }
+fn parent_moved(t: &TreeRows, i: usize) -> u16
+    requires { (i < most_nodes) × ((get_or t.now.up i 0 ≡ no_row) ⊎ (get_or t.now.up i 0 < most_nodes)) }
+    ensures { result ≡ parent_moved t.now.up t.now.kids i }
 {
-    let p = up[i];
-    if p == NO_ROW { NO_ROW } else { moved[wide(p)] }
+    let p = t.up[i];
+    if p == NO_ROW { NO_ROW } else { t.kids[wide(p)] }
 }
 
 // The new place of row i is noted among the numbers of children, which nobody reads any more.
@@ -50,7 +50,7 @@ fn move_row(t: &mut TreeRows, i: usize, parent: &mut Links, j: usize)
 {
     t.code[j] = t.code[i];
     t.mark[j] = t.mark[i];
-    parent[j] = parent_moved(&t.up, &t.kids, i);
+    parent[j] = parent_moved(t, i);
     note_place(&mut t.kids, i, j);
 }
 

@@ -26,8 +26,8 @@ fn next_level(x: usize, y: usize, u: u16, v: u16) -> Option<(usize, usize)>
     Some((renumber(x, y, p), renumber(x, y, q)))
 }
 
-// Row y of the n rows goes into row x, unless their labels clash; then the parents of the two are next, if both have one. No row below `from` is taken
-// out.
+// Row y of the n rows goes into row x, unless their labels clash; then the parents of the two are next, if both have one. No row below `from` is
+// taken out.
 fn glue_level(
     parent: &mut [u16],
     label: &mut [u32],

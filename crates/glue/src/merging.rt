@@ -125,7 +125,7 @@ pub fn merge_rows(
     let rule = |p| relinked(a, b, p);
     sweep(parent, from, y, 0, rule);
     sweep(parent, y, last, 1, rule);
-    // No `copy_within`: it has a loop for each direction, and gluing was slower with it.
+    // tried: with `copy_within`, which has a loop for each direction, gluing took 3 to 11% longer on six of seven words of 255 steps
     sweep(label, y, last, 1, |l| l);
     let z = renumber(x, y, x);
     parent[z] = rule(u);

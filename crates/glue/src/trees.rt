@@ -127,8 +127,8 @@ fn glue_within(parent: &mut [u16], label: &mut [u32], t: Joined) -> Option<Built
     })
 }
 
-// Composition, or intersection, which "glues s to s, then d to d in that result". "Empty in any operand gives empty." `both` is a bool: an enum of the
-// two would be made of the sign by the test that makes the bool.
+// Composition, or intersection, which "glues s to s, then d to d in that result". "Empty in any operand gives empty." `both` is a bool: an enum of
+// the two would be made of the sign by the test that makes the bool.
 pub fn glue_two(
     parent: &mut [u16],
     label: &mut [u32],

@@ -11,7 +11,7 @@ ghost use Rattle.image.specs.Listing.{head, listing_of};
 use groups::Writer;
 use rows::TreeRows;
 
-// How many bytes the head of a record takes.
+// How many bytes the head of a record takes. Widened by `as`: what `From` gives is known by its contract alone, and each bound would have to cite it.
 fn head_length(code: u32, mark: u8, kids: u16) -> usize
     ensures { (result ≡ length (head code mark kids)) × (result ≤ 15) }
 {

@@ -1,4 +1,4 @@
-// The table "Limits and refusal numbers": each number stands in the code once, here, under the name that it has in the definitions (meaning, Limits
+// The table "Limits and refusal numbers": each number stands in the code once, here, named as in the definitions (meaning, Limits
 // and Number), in the header and in the second implementation. A request's refusals and limits are added here.
 #![tactic(auto)]
 

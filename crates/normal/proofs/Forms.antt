@@ -10,9 +10,9 @@ use Rattle.meaning.specs.Normal.{all, factors, normal, word_of}
 use Rattle.rows.specs.Rows.{FirstRow, brothers, shape, map_t, tree_rows, Rows}
 use Rattle.rows.proofs.Rows.{rows_top}
 use Rattle.groups.specs.declared.Writer.{Writer}
-use Rattle.groups.specs.Filled.{filled}
+use Rattle.groups.specs.Filled.{filled, Fits}
 use Rattle.groups.proofs.Filled.{filled_nil}
-use Rattle.branches.specs.Joining.{fill, Fits, Takes, filled_by}
+use Rattle.branches.specs.Joining.{fill, Takes, filled_by}
 use Rattle.branches.specs.Factors.{tagged}
 use Rattle.branches.proofs.Joining.{word_some, fill_nil, fill_first}
 use Rattle.ways.specs.Ways.{Lowest}

@@ -18,7 +18,8 @@ struct Place {
     node: usize,
 }
 
-// The table is any bytes that are long enough, with a clause, as `pair_selected` is lent it (docs/PROMISES.md names it).
+// The table is any bytes that are long enough, with a clause, as `pair_selected` is lent it (docs/PROMISES.md names it). Table, rows and parents are
+// three references here and below: a struct of them would be made for one call.
 // Whether row u may lie on node x and the row above it on x's parent.
 fn can_climb(w: &[u8], u: usize, x: usize) -> bool
     requires { (u < most_nodes) × (x < most_rows) × (table_bytes ≤ length w.now) }

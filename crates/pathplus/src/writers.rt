@@ -27,8 +27,7 @@ pub fn written(form: Form, word: &[u8], room: &mut [u8]) -> Result<usize, Refuse
     write_accepted(form, word, room)
 }
 
-// The three calls beside `written` are the library's interface, and C's: each under its own name.
-// The plain tree image of a word.
+// The plain tree image of a word. It and the two below stay beside `written`: the library's interface has the three names, and so has C's.
 pub fn plain_image(word: &[u8], room: &mut [u8]) -> Result<usize, Refused>
     ensures { PlainImage word.now room.old (outcome_of result) room.new }
 {

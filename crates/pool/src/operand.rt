@@ -177,7 +177,7 @@ impl<'a> Pool<'a> {
         }
     }
 
-    // Operand l.at is l, and it is the latest. Where there are no rows, its marks do not matter, and may be any numbers.
+    // Operand l.at is l, and it is the latest. Where there are no rows, its marks do not matter.
     pub fn put_latest(&mut self, l: Latest)
         requires { PutFits l self.old.first.now self.old.s.now self.old.d.now }
         ensures { self.new ≡ with_latest self.old l }

@@ -22,8 +22,9 @@ pub type Codes = [u32; MOST_NODES];
 // A mark for each node.
 pub type Marks = [u8; MOST_NODES];
 
-// A tree in image order: the first `len` rows, and no rows for empty. It is lent and never copied: it takes some kilobytes. It has no invariant: it is
-// filled, folded and put in order in its place, and what reads it takes it from whoever has the fact (`IsTree`, `IsQuery`; docs/PROMISES.md names them).
+// A tree in image order: the first `len` rows, and no rows for empty. Five tables and no table of rows: most walks read one or two of the five.
+// It is lent and never copied, for it takes some kilobytes. It has no invariant: it is filled, folded and put in order in its place, and what reads
+// it (`form_length`, `put_form`, `match_table` and others that docs/PROMISES.md names) takes it from whoever has the fact, `IsTree` or `IsQuery`.
 #[derive(Drop)]
 pub struct TreeRows {
     pub code: Codes,
@@ -34,10 +35,11 @@ pub struct TreeRows {
     pub len: usize,
 }
 
-// The parent of the top: no row. A number and no `Option<u16>`: that takes twice the memory, and links are renumbered in 16 bits, eight at a time (glue).
+// The parent of the top: no row. A number and no `Option<u16>`: that takes twice the memory, and links are renumbered in 16 bits, eight at a time
+// (glue).
 pub const NO_ROW: u16 = 65535;
 
-// The bits of a mark: "mark (0 none, 1 s, 2 d, 3 both)".
+// The bits of a mark: "mark (0 none, 1 s, 2 d, 3 both)". Numbers and no enum: an image has the byte as it is.
 pub const S: usize = 0;
 
 pub const D: usize = 1;
@@ -81,7 +83,7 @@ pub fn row_of(mark: &Marks, bit: usize) -> usize
     requires { (bit < 8) × Borne mark.now bit }
     ensures { FirstRow mark.now bit result }
 {
-    // tried: `position` over the table is made into vector instructions, and a normal form of a small query then takes 35 to 45 ns more, some 8%
+    // tried: `position` becomes vector instructions, and a normal form of a small query takes 35 to 45 ns more, some 8%, where none may be slower
     let mut u: usize = 0;
     while !bits::bit_of(mark[u], bit) {
         u += 1;

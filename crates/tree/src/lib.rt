@@ -15,7 +15,8 @@ pub use order::Lists;
 use order::Table;
 use rows::{Links, Marks, Starts, TreeRows};
 
-// A table that is a tree query: the parents and label codes of its first n rows, and its nodes s and d. No rows: empty.
+// A table that is a tree query: the parents and label codes of its first n rows, and its nodes s and d. No rows, and no `Option`: empty is a table
+// without rows to a reader of any language.
 #[derive(Clone, Copy)]
 pub struct Query<'a> {
     pub parent: &'a [u16],

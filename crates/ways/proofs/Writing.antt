@@ -13,8 +13,8 @@ use Rattle.meaning.specs.Normal.{above_factor}
 use Rattle.rows.specs.Rows.{below}
 use Rattle.rows.proofs.Rows.{rows_top}
 use Rattle.groups.specs.declared.Writer.{Writer}
-use Rattle.groups.specs.Filled.{filled}
-use Rattle.branches.specs.Joining.{joint, fill, factor, Fits, Takes, filled_by}
+use Rattle.groups.specs.Filled.{filled, Fits}
+use Rattle.branches.specs.Joining.{joint, fill, factor, Takes, filled_by}
 use Rattle.branches.specs.Factors.{Row, own_at}
 use Rattle.branches.proofs.Joining.{fill_one, fill_first, fill_parent, filled_by_nil, filled_by_both}
 use Rattle.branches.proofs.Joining.{Left, left_start, left_is, left_step, left_fits, child_step}
