@@ -16,7 +16,7 @@ pub type Links = [u16; MOST_NODES];
 // The same, and one more for the top, which has no parent.
 pub type Starts = [u16; MOST_NODES + 1];
 
-// A label code for each node.
+// A label code for each node: "0 wildcard, else L+1", as an image has it.
 pub type Codes = [u32; MOST_NODES];
 
 // A mark for each node.
