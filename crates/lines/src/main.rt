@@ -39,7 +39,7 @@ fn bytes_of(line: &[u8], word: &mut [u8]) -> usize
     word.len()
 }
 
-// What the program writes for the word.
+// What the program writes for the word. `reduce` has these lines too: report, below both, makes bytes and knows no stream.
 fn write_text<W: Write>(to: &mut W, word: &[u8]) -> io::Result<()> {
     let mut text = [0u8; LONGEST_TEXT];
     let length = report::program_text(word, &mut text);

@@ -33,6 +33,7 @@ fn form_number(form: Form, word: &[u8], room: &mut [u8]) -> u64
     answer_number(written(form, word, room))
 }
 
+// The four calls under C's names: pathplus_c exports each of them.
 pub fn pathplus_plain_image(word: &[u8], room: &mut [u8]) -> u64
     ensures { WritesC plain_image word.now room.old result room.new }
 {
