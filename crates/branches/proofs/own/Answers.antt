@@ -14,9 +14,6 @@ loop-c-init c =
     let (R, le, f) = c.requires in
     rw c.into_iter-c-iterator.ensures.into_iter_gives (off_start R c.children-c-items.ensures (own_done _ _ _ _ _ _ c.args.w.now le f c.put_label.ensures))
 
-pub on_way-requires : goal.on_way-requires
-on_way-requires c = off_few c.next.new.self _ c.loop-c.invariant c.in-Some.ensures.steps
-
 pub branch-w-requires : goal.branch-w-requires
 branch-w-requires c = off_requires c.next.new.self _ c.loop-c.invariant c.in-Some.ensures.steps (sym c.on_way.ensures ∙ c.if-not-on_way.true)
 
