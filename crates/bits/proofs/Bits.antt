@@ -1,5 +1,6 @@
 -- Laws of bits: what an or, an and, a shift and a store do to the bits of a byte and of a row.
 use mathlib.Core.Path.{◌≡◌, refl, sym, ap, ◌∙◌}
+use mathlib.Core.Logic.{by_cases}
 use mathlib.Core.List.{List, ◌++◌}
 use mathlib.Core.Bool.{Bool, true, false, not, cond, ◌&&◌, and-true}
 use Prim.Native.Nat.{ℕ, zero, suc, ◌+◌, ◌-◌, ◌*◌, ◌/◌, ◌%◌, ◌^◌, ◌≤◌, ◌<◌}
@@ -18,7 +19,7 @@ use Rattle.std.proofs.lemmas.List.Edits.{get_or-between}
 use Rattle.std.specs.List.{between}
 use Rattle.meaning.specs.Matching.{bit_at}
 use Rattle.theory.proofs.Look.{never}
-use Rattle.bits.specs.Bits.{bit_of, all_to, row_clear, BitKept, OnlyRow, BitSet, Met, Cleared}
+use Rattle.bits.specs.Bits.{bit_of, all_to, row_clear, BitKept, OnlyRow, BitSet, Sifted, Met, Cleared}
 
 -- ------------------------------------------------------------------ bits of a byte
 -- (n >> ..) & 1
@@ -214,9 +215,18 @@ met_more w u h b i o l lw f m = go (rw m.only.same lw)
             let bv : bit_at w u v ≡ bit_of (get_or b (128 * u + i) 0) (v % 8) = sym (m.behind v (omega arith) (omega arith)) ∙ rw (bit_byte b u v, q) in
             store_here b u i o l lb v q ∙ rw bv (rw z at (f (v % 8) (omega arith)))
 
+-- ------------------------------------------------------------------ a byte sifted
 -- a byte without bits keeps none
-pub flagged_none : (b : ℕ) (g : ℕ → Bool) → b ≡ 0 → (k : ℕ) → k < 8 → bit_of 0 k ≡ (bit_of b k && g k)
-flagged_none b g e k l = rw (e, zero_bit k)
+pub sift_none : (b : ℕ) (g : ℕ → Bool) (k : ℕ) → b ≡ 0 → Sifted b g k 0
+sift_none b g k e = record { low = λ j l. rw (e, zero_bit j); high = λ j l m. rw e }
+
+-- one bit more
+pub sift_more : {b k r r' : ℕ} {on : Bool} {g : ℕ → Bool} → Sifted b g k r → k < 8 → BitKept r k on r' → on ≡ g k → Sifted b g (k + 1) r'
+sift_more {b = b} {k = k} {r = r} {r' = r'} {g = g} s l p e = record {
+  low = λ j m. by_cases (ℕ_discrete j k) (λ q. rw (q, p.here, s.high k (omega arith) l, e))
+      (λ ne. p.other j (omega arith) ne ∙ s.low j (omega arith));
+  high = λ j m n. p.other j n (λ q. omega arith) ∙ s.high j (omega arith) n;
+}
 
 -- the first bytes of row u are 0, or not, and one more
 pub more_clear : (w : List ℕ) (u e : ℕ) → e < 128

@@ -10,7 +10,7 @@ use lib.ListN.{get_or}
 use lib.Seq.{ext_get_or}
 use Rattle.meaning.specs.Matching.{bit_at}
 use Rattle.theory.proofs.Once.{value_same, bits_same, Bytes, bytes_same}
-use Rattle.bits.specs.Bits.{bit_of, BitKept, OnlyRow, BitSet, Met, Cleared}
+use Rattle.bits.specs.Bits.{bit_of, BitKept, OnlyRow, BitSet, Sifted, Met, Cleared}
 
 pub keep_bit_unique : (b k : ℕ) (on : Bool) (r r' : ℕ) → r < 256 → r' < 256 → BitKept b k on r → BitKept b k on r' → r ≡ r'
 unfolding bit_of
@@ -19,6 +19,11 @@ keep_bit_unique b k on r r' l l' p p' = bits_same 8 r r' l l' (λ j m. bit j m (
     bit : (j : ℕ) → j < 8 → Dec (j ≡ k) → bit_of r j ≡ bit_of r' j
     bit j m (yes e) = rw e (value_same p.here p'.here)
     bit j m (no e) = value_same (p.other j m e) (p'.other j m e)
+
+-- a test whose answers a function gives leaves one byte
+pub sift_unique : (b : ℕ) (g : ℕ → Bool) (r r' : ℕ) → r < 256 → r' < 256 → Sifted b g 8 r → Sifted b g 8 r' → r ≡ r'
+unfolding bit_of
+sift_unique b g r r' l l' s s' = bits_same 8 r r' l l' (λ j m. value_same (s.low j m) (s'.low j m))
 
 -- the bits of one row are told, and nothing else changes
 pub row_unique : (w : List ℕ) (u : ℕ) (a a' : List ℕ) → Bytes a → Bytes a' → OnlyRow w u a → OnlyRow w u a'

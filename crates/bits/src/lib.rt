@@ -1,11 +1,11 @@
 // Rows of bits in lent bytes: bit v of row u is "bit v mod 8 of byte 128u + v div 8 (lowest bit is 0)".
-// A match table has 256 such rows, a row of its own has one; both are read and written by the same functions. So bytes and the number of a row stay
-// apart, with their clause: a type of 256 rows would ask for more (docs/PROMISES.md names these functions).
+// A match table has 256 such rows. The functions take any slice that is long enough for the row they are asked for (docs/PROMISES.md names them).
+// So bytes and the number of a row stay apart, with their clause: a type of 256 rows would ask for more.
 #![tactic(auto)]
 
-ghost use Rattle.std.specs.Prelude.{◌≡◌, ◌&&◌, ℕ, ◌+◌, ◌*◌, ◌≤◌, ◌<◌, length, get_or, eqb};
+ghost use Rattle.std.specs.Prelude.{◌≡◌, Bool, ℕ, ◌+◌, ◌*◌, ◌≤◌, ◌<◌, length, get_or};
 ghost use Rattle.meaning.specs.Matching.{bit_at};
-ghost use Rattle.bits.specs.Bits.{bit_of, row_clear, BitKept, BitSet, Met, Cleared};
+ghost use Rattle.bits.specs.Bits.{bit_of, row_clear, BitKept, BitSet, Sifted, Met, Cleared};
 
 // Whether bit k of a byte is set.
 pub fn bit_of(b: u8, k: usize) -> bool
@@ -31,9 +31,7 @@ pub fn test_bit(w: &[u8], u: usize, v: usize) -> bool
     requires { (u < 256) × (v < 1024) × (128 * u + 128 ≤ length w.now) }
     ensures { result ≡ bit_at w.now u v }
 {
-    let i = 128 * u + v / 8;
-    let k = v % 8;
-    (w[i] >> k) & 1 == 1
+    bit_of(w[128 * u + v / 8], v % 8)
 }
 
 // Sets bit v of row u.
@@ -46,17 +44,20 @@ pub fn set_bit(w: &mut [u8], u: usize, v: usize)
     w[i] = w[i] | (1 << k);
 }
 
-// The bits of b whose flags are 1. Where no bit is set no flag is read.
-fn flagged(b: u8, flags: &[u8], from: usize) -> u8
-    requires { (from < 1024) × (from + 8 ≤ length flags.now) }
-    ensures { (k : ℕ) → k < 8 → bit_of result k ≡ (bit_of b k && eqb (get_or flags.now (from + k) 0) 1) }
+// The bits of b that the test keeps: bit k by what it says of item `from + k`, told for a test that answers as a function g. Where no bit is set no
+// item is read.
+pub fn sift<T: Copy, F: Fn(T) -> bool>(b: u8, items: &[T], from: usize, keeps: F) -> u8
+    requires size { from + 8 ≤ length items.now }
+    requires callable { (z : _) (k : ℕ) → k < 8 → F.pre keeps (get_or items.now (from + k) z) }
+    ensures { (z : _) (g : ℕ → Bool) → ((k : ℕ) (on : Bool) → k < 8 → F.post keeps (get_or items.now (from + k) z) on → on ≡ g k)
+        → Sifted b g 8 result }
 {
     if b == 0 {
         return 0;
     }
     let mut r = b;
     for k in 0..8 {
-        r = keep_bit(r, k, flags[from + k] == 1);
+        r = keep_bit(r, k, keeps(items[from + k]));
     }
     r
 }
@@ -68,7 +69,7 @@ pub fn meet(w: &mut [u8], u: usize, flags: &[u8], bytes: usize)
 {
     let at = 128 * u;
     for i in 0..bytes {
-        w[at + i] = flagged(w[at + i], flags, 8 * i);
+        w[at + i] = sift(w[at + i], flags, 8 * i, |f| f == 1);
     }
 }
 

@@ -1,7 +1,7 @@
 // The nodes of a document that a label code fits ("0 wildcard, else L+1"), as a row of bits: eight to a byte.
-ghost use Rattle.std.specs.Prelude.{◌≡◌, ◌↔◌, true, ℕ, ◌+◌, ◌*◌, ◌≤◌, ◌<◌, length, get_or, eqb};
+ghost use Rattle.std.specs.Prelude.{◌≡◌, ◌↔◌, true, ℕ, ◌+◌, ◌*◌, ◌≤◌, ◌<◌, length};
 ghost use Rattle.meaning.specs.Limits.{most_nodes, most_rows};
-ghost use Rattle.bits.specs.Bits.{bit_of, Sifted, OnlyRow};
+ghost use Rattle.bits.specs.Bits.{bit_of};
 ghost use Rattle.document.specs.Nodes.{Suits, RowUpTo, RowIs, RowClear};
 
 // Whether the label of node x fits a label code ("0 wildcard, else L+1").
@@ -15,27 +15,16 @@ fn fits_at(code: u32, labels: &[u32], x: usize) -> bool
     code - 1 == labels[x]
 }
 
-// Which of eight nodes bear a label, as the bits of a byte.
-fn same_byte(label: u32, labels: &[u32], from: usize) -> u8
-    requires { (from < most_rows) × (from + 8 ≤ length labels.now) }
-    ensures { Sifted 255 (λ k. eqb (get_or labels.now (from + k) 0) label) 8 result }
-{
-    let mut b: u8 = 255;
-    for k in 0..8 {
-        b = bits::keep_bit(b, k, labels[from + k] == label);
-    }
-    b
-}
-
 // Which of eight nodes a label code fits, as the bits of a byte.
 fn label_byte(code: u32, labels: &[u32], from: usize) -> u8
-    requires { (from < most_rows) × (from + 8 ≤ length labels.now) }
+    requires { from + 8 ≤ length labels.now }
     ensures { (k : ℕ) → k < 8 → (bit_of result k ≡ true) ↔ Suits code labels.now (from + k) }
 {
     if code == 0 {
         return 255;
     }
-    same_byte(code - 1, labels, from)
+    let label = code - 1;
+    bits::sift(255, labels, from, |l| l == label)
 }
 
 // The last nodes of row u, those that do not fill a byte, one by one.

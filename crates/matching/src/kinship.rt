@@ -1,10 +1,10 @@
 // From a child's row to its parent's: the parents of the nodes in a row are flagged, byte by byte, and a row keeps the flagged nodes.
-ghost use Rattle.std.specs.Prelude.{◌≡◌, true, ℕ, ◌+◌, ◌*◌, ◌≤◌, ◌<◌, length, get_or};
+ghost use Rattle.std.specs.Prelude.{◌≡◌, true, ℕ, ◌+◌, ◌*◌, ◌≤◌, ◌<◌, length};
 ghost use Rattle.meaning.specs.Limits.{most_nodes, most_rows};
 ghost use Rattle.meaning.specs.Matching.{bit_at, table_bytes};
 ghost use Rattle.bits.specs.Bits.{bit_of};
 ghost use Rattle.document.specs.Nodes.{RowIs};
-ghost use Rattle.matching.specs.Table.{FromByte, Upto, ParentOf, Added, RowInside};
+ghost use Rattle.matching.specs.Table.{FromByte, ParentOf, Added, RowInside};
 
 use document::table::{Document, parent_at};
 use limits::most::MOST_ROWS;

@@ -1,7 +1,7 @@
--- A shift and a mask read the bit.
-use Rattle.meaning.specs.Matching.{bit_at}
-use Rattle.bits.proofs.Bits.{and_one}
+-- Bit v of the row is a bit of one of its bytes.
+use mathlib.Core.Path.{sym, ◌∙◌}
+use Rattle.bits.proofs.Bits.{bit_byte}
 use Rattle.bits.proofs.test_bit.Goals as goal
 
 pub returns : goal.returns
-returns c = unfold bit_at in rw (and_one _)
+returns c = c.bit_of.ensures ∙ sym (bit_byte _ _ _)
