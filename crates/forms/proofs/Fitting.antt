@@ -1,12 +1,12 @@
 -- The two ways out of a writer whose bytes are known: the room is too short, or the bytes are written into its front.
 use mathlib.Core.Path.{◌≡◌, sym, ap, ◌∙◌}
-use mathlib.Core.Bool.{Bool, true, false, cond}
+use mathlib.Core.Bool.{Bool, false, cond}
 use mathlib.Core.List.{List}
-use Prim.Native.Nat.{ℕ, ◌≤◌, ◌<◌}
+use Prim.Native.Nat.{ℕ, ◌≤◌}
 use native.Mathlib.Omega.{arith}
 use lib.ListN.{length}
 use lib.Dec.{ltb}
-use borrow.Author.Tests.{lt-ltb, le-ltb}
+use borrow.Author.Tests.{le-ltb}
 use Rattle.meaning.specs.Limits.{room_too_short}
 use Rattle.meaning.specs.Word.{refused, answered}
 use Rattle.meaning.specs.Promise.{fitting, length_of, room_after}
@@ -19,12 +19,6 @@ fitting_is : (bytes room : List ℕ) (b : Bool) → ltb (length room) (length by
 fitting_is bytes room b e = ap (λ x. cond x (refused room_too_short (length bytes)) (answered bytes)) e
 
 module _ {bytes room : List ℕ} where
-  -- refusal 7
-  pub fitted_short : {k : ℕ} → k ≡ length bytes → length room < k → Fitted bytes room (refused room_too_short k) room
-  fitted_short ek l =
-      let s = fitting_is bytes room true (lt-ltb (length room) (length bytes) (omega arith)) in
-      record { returned = ap (refused room_too_short) ek ∙ sym (ap length_of s); left = sym (ap (room_after room) s) }
-
   -- the answer
   pub fitted_done : {k : ℕ} {after : List ℕ} → length bytes ≤ length room → Written room 0 bytes after k → Fitted bytes room (answered k) after
   fitted_done {k} l w =

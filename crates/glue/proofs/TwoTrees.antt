@@ -11,7 +11,7 @@ use native.Mathlib.Decide.{ℕ_discrete}
 use native.Mathlib.Omega.{arith}
 use lib.ListN.{length, drop}
 use Rattle.meaning.specs.TreeQuery.{Table, Query, Live, Tree, TreeQuery}
-use Rattle.meaning.specs.Gluing.{Glued, glue, join, across, depth, placed, then_within, two}
+use Rattle.meaning.specs.Gluing.{Glued, glue, join, across, depth, placed, then_within}
 use Rattle.theory.proofs.Look.{never, pick_yes, pick_no}
 use Rattle.theory.proofs.Join.{length_join}
 use Rattle.theory.proofs.Apart.{Safe, AcrossO, safe_join, across_glued, safe_within}
@@ -20,7 +20,7 @@ use Rattle.rows.proofs.Table.{length_table, live_below, below_live}
 use Rattle.glue.specs.declared.levels.Joined.{Joined}
 use Rattle.glue.specs.declared.trees.Built.{Built}
 use Rattle.glue.specs.Levels.{Marked, marked, marked_at, joined_of}
-use Rattle.glue.specs.Trees.{query_from, built_of, chosen, InTree, within_of}
+use Rattle.glue.specs.Trees.{query_from, InTree, within_of}
 
 -- ------------------------------------------------------------------ two marks of three
 -- the rows with the marks that `choose` takes of the three
@@ -103,43 +103,6 @@ module _ (p q : Built) (P L : List ℕ) (vp : TreeQuery (query_from 0 p P L)) (v
         go (some g) a z =
             let m : record { rows = g.rows; s = g.to p.s; d = g.to p.d; d2 = g.to (length A + q.d) } ≡ marked_at t P' L' = cc in
             subst InTree m (a.tree, a.live_a p.d vp.d_live, a.live_b q.d vq.d_live)
-
--- ------------------------------------------------------------------ two operands
--- "Empty in any operand gives empty."
-pub two_second : (f : Query → Query → Option Query) (o : Option Query) → none ≡ two f o none
-two_second f none = refl
-two_second f (some Q) = refl
-
-module _ (p q : Built) (P L : List ℕ) where
-  abbrev A₁ : Table
-  A₁ = table p.rows P L
-
-  abbrev B₁ : Table
-  B₁ = table q.rows (drop p.rows P) (drop p.rows L)
-
-  abbrev First : Bool → Option Glued
-  First both = across A₁ (cond both p.s p.d) B₁ q.s
-
-  abbrev Three : Bool → Option Marked
-  Three both = marked (First both) p.s p.d (length A₁ + q.d)
-
-  abbrev Two : Bool → Option Query
-  Two both = chosen both (query_from 0 p P L) (query_from p.rows q P L)
-
-  pub composed_end : (both : Bool) → both ≡ false → (t : Joined) (P' L' : List ℕ) → joined_of (Some t) P' L' ≡ Three both
-      → built_of (Some (record { rows = t.rows; s = t.s; d = t.d2 })) P' L' ≡ Two both
-  composed_end true z t P' L' e = never cc
-  composed_end false z t P' L' e = ap (two_marks (λ m. m.d2)) e ∙ placed_d2 (First false) p.s p.d (length A₁ + q.d)
-
-  pub intersected_end : (both : Bool) → both ≡ true → (t : Joined) (P' L' : List ℕ) → joined_of (Some t) P' L' ≡ Three both
-      → within_of (marked_at t P' L') ≡ Two both
-  intersected_end false z t P' L' e = never cc
-  intersected_end true z t P' L' e = within_marked (First true) p.s p.d (length A₁ + q.d) (marked_at t P' L') (sym e)
-
-  -- the first gluing failed
-  pub failed_end : (both : Bool) → none ≡ Three both → none ≡ Two both
-  failed_end false e = sym (ap (λ o. placed o p.s (length A₁ + q.d)) (no_glued (First false) p.s p.d (length A₁ + q.d) e))
-  failed_end true e = sym (ap (λ o. then_within o p.s p.d (length A₁ + q.d)) (no_glued (First true) p.s p.d (length A₁ + q.d) e))
 
 -- ------------------------------------------------------------------ inside one tree
 module _ (t : Joined) (P L : List ℕ) (h : InTree (marked_at t P L)) where

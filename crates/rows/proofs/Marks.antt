@@ -21,20 +21,6 @@ use Rattle.rows.proofs.Rows.{size_holds}
 abbrev pub Passed : List ℕ → ℕ → ℕ → Type 0
 Passed mark bit u = (j : ℕ) → j < u → bit_of (get_or mark j 0) bit ≡ false
 
-pub not_passed : (mark : List ℕ) (bit u : ℕ) → Borne mark bit → Passed mark bit u → u < most_nodes
-not_passed mark bit u (k, l, b) f = go (dec_lt k u)
-  where
-    go : Dec (k < u) → u < most_nodes
-    go (yes d) = never (cc (sym b ∙ f k d))
-    go (no d) = omega arith
-
-pub passed_more : (mark : List ℕ) (bit u : ℕ) → Passed mark bit u → bit_of (get_or mark u 0) bit ≡ false → Passed mark bit (u + 1)
-passed_more mark bit u f e j l = go (ℕ_discrete j u)
-  where
-    go : Dec (j ≡ u) → bit_of (get_or mark j 0) bit ≡ false
-    go (yes d) = rw d e
-    go (no d) = f j (omega arith)
-
 -- ------------------------------------------------------------------ the one row that is so
 module _ (p : ℕ → Bool) where
   -- how many of the k rows from u on are so

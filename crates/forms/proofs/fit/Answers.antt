@@ -1,7 +1,6 @@
 -- What does not fit is refused with the length that was counted; what fits is written.
-use borrow.Author.Rules.{rules}
 use native.Mathlib.Omega.{arith}
-use Rattle.forms.proofs.Fitting.{fitted_short, fitted_done}
+use Rattle.forms.proofs.Fitting.{fitted_done}
 use Rattle.forms.proofs.fit.Goals as goal
 
 pub returns : goal.returns

@@ -1,7 +1,6 @@
 -- No rows in one of the two give empty; two trees are glued, for intersection twice.
-use mathlib.Core.Path.{◌∙◌}
 use native.Mathlib.Omega.{arith}
-use Rattle.glue.proofs.TwoTrees.{two_second, across_few, across_tree, composed_end, intersected_end, failed_end}
+use Rattle.glue.proofs.TwoTrees.{across_few, across_tree}
 use Rattle.glue.proofs.trees.glue_two.Goals as goal
 
 pub glue_within-requires : goal.glue_within-requires
