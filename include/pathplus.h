@@ -64,8 +64,8 @@
  *
  * Stack. It is bounded by the limits below. The deepest that was measured, by
  * `bench/run stack` over words made to be deep, is the pair question of two
- * branches of 128 and 127 nodes that are alike but for their ends: 28,872 bytes
- * on x86-64. The other calls took less than 28 KB. This is measured, not proved.
+ * branches of 128 and 127 nodes that are alike but for their ends: 24,872 bytes
+ * on x86-64. The other calls took less than 24 KB. This is measured, not proved.
  */
 #ifndef PATHPLUS_H
 #define PATHPLUS_H

@@ -22,8 +22,3 @@ pub returns-then-workspace-lt-TABLE_BYTES : goal.returns-then-workspace-lt-TABLE
 returns-then-workspace-lt-TABLE_BYTES c =
     rw c.at-then-workspace-lt-TABLE_BYTES.ensures
     (selects_short _ c.requires.1 (good (goal.at.returns-then-workspace-lt-TABLE_BYTES c).In-Some) (omega arith) (omega arith) (omega arith))
-
-pub tell-requires : goal.tell-requires
-tell-requires c =
-    let (p, l) = c.in-Some.ensures in
-    (c.requires, record { table = c.in-Some.document.good; first = rw p (omega arith); second = rw p (omega arith); space = omega arith })

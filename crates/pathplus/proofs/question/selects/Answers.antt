@@ -1,12 +1,8 @@
 -- The word's own refusals, or the question.
 use Rattle.std.proofs.lemmas.Result.{err_from_is_err_and}
-use Rattle.word.proofs.Accepted.{accepted_word}
 use Rattle.pathplus.proofs.Asking.{selects_refused}
 use Rattle.pathplus.proofs.OfRows.{word_refused}
 use Rattle.pathplus.proofs.question.selects.Goals as goal
-
-pub ask-requires : goal.ask-requires
-ask-requires c = accepted_word _ c.in_ok-check_word.ensures
 
 pub returns-in_err-check_word : goal.returns-in_err-check_word
 returns-in_err-check_word c =

@@ -1,13 +1,9 @@
 -- The word's own refusals, or its form.
 use Rattle.std.proofs.lemmas.Result.{err_from_is_err_and}
-use Rattle.word.proofs.Accepted.{accepted_word}
 use Rattle.forms.specs.Form.{form_of}
 use Rattle.pathplus.proofs.Writing.{writes_refused}
 use Rattle.pathplus.proofs.OfRows.{word_refused}
 use Rattle.pathplus.proofs.writers.written.Goals as goal
-
-pub write_accepted-requires : goal.write_accepted-requires
-write_accepted-requires c = accepted_word _ c.in_ok-check_word.ensures
 
 pub returns-in_err-check_word : goal.returns-in_err-check_word
 returns-in_err-check_word c =

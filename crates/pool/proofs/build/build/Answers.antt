@@ -2,14 +2,11 @@
 use mathlib.Core.Path.{refl, ap}
 use Rattle.std.proofs.Common.{rules}
 use Rattle.pool.specs.declared.operand.Pool as lent
-use Rattle.pool.proofs.Reading.{holds_start, last_fits, reading_end}
+use Rattle.pool.proofs.Reading.{holds_start, reading_end}
 use Rattle.pool.proofs.build.build.Goals as goal
 
 pub apply_signs-requires : goal.apply_signs-requires
 apply_signs-requires c = (c.requires.accepted, holds_start _ _ c.args.first.now _ _ c.requires.sizes, refl)
-
-pub operand-requires : goal.operand-requires
-operand-requires c = let (e, w, h) = c.apply_signs.ensures.only in last_fits _ e h
 
 pub returns : goal.returns
 returns c =

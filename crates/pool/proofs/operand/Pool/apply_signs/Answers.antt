@@ -29,8 +29,5 @@ loop-cursor-preserved c =
       rw past (reading_next _ _ _ _ h.1 c.loop-cursor-test.true _ got (rw c.from.ensures at c.apply_sign.ensures.sign)),
     )
 
-pub returns-clause-slices : goal.returns-clause-slices
-returns-clause-slices c = c.loop-cursor.invariant.0
-
 pub returns-clause-only : goal.returns-clause-only
 returns-clause-only c = reading_last _ _ _ _ c.loop-cursor.invariant.1 c.loop-cursor-test.false
