@@ -8,7 +8,7 @@ use crate::Table;
 use crate::children::Lists;
 use rows::{NO_ROW, TreeRows, at, wide};
 
-// The parent of the top, as a row number.
+// The parent of the top, as a row number: no `Option`, for it goes into the table of parents as it is.
 const TOP: usize = NO_ROW as usize;
 
 // Lays the tree at slot n out as rows. It goes down to the first child; where there is none, all below row u is laid out, and it goes on to u's next

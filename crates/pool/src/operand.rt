@@ -186,6 +186,7 @@ impl<'a> Pool<'a> {
         let b = kept(l.built);
         let end = self.start(k) + b.rows;
         set_link(self.first, k + 1, end);
+        // a mark is below 512 wherever it is read: the remainder spares a clause that says so
         self.s[k] = (b.s % 65536) as u16;
         self.d[k] = (b.d % 65536) as u16;
         self.pending = k + 1;

@@ -21,7 +21,7 @@ pub const LONGEST_TEXT: usize = 10272;
 
 // ---------------------------------------------------------------- characters, each behind what the writer has
 
-// "lower-case hex": the digit of a number below 16.
+// "lower-case hex": the digit of a number below 16. std's `from_digit` answers an `Option` of a `char`: two steps more to a byte.
 fn digit(n: u8) -> u8
     requires { n < 16 }
     ensures { result ≡ hex_digit n }
