@@ -32,7 +32,7 @@ fn taken(rows: &TreeRows, document: &Document<'_>, m: usize, n: usize, workspace
     pair::pair_selected(workspace, rows, document.parents, m, n)
 }
 
-// Yes or no, once nothing is left to refuse.
+// Yes or no, once nothing is left to refuse. `NotRefused` has all of refusals 8, 9 and 10, so a good table too, which `Document` holds: one notion.
 fn tell(word: &[u8], document: &Document<'_>, m: usize, n: usize, workspace: &mut [u8]) -> bool
     requires { Accepted word.now × NotRefused document.now.parents.now document.now.labels.now m n workspace.old }
     ensures { Selected (question word.now document.now.parents.now document.now.labels.now m n workspace.old)
