@@ -170,10 +170,10 @@ module _ {code₀ mark₀ up code mark parent moved : List ℕ} {i j : ℕ} {cod
       }
 
 pub same_shape : (t : TreeRows) → SameShape t t
-same_shape t = record { span = refl; up = refl; len = refl }
+same_shape t = record { kids = refl; span = refl; up = refl; len = refl }
 
 pub same_shapes : {t t' t'' : TreeRows} → SameShape t t' → SameShape t' t'' → SameShape t t''
-same_shapes r s = record { span = s.span ∙ r.span; up = s.up ∙ r.up; len = s.len ∙ r.len }
+same_shapes r s = record { kids = s.kids ∙ r.kids; span = s.span ∙ r.span; up = s.up ∙ r.up; len = s.len ∙ r.len }
 
 -- ------------------------------------------------------------------ the loop
 -- the walk stands at row i, and the first j rows_of have their places

@@ -52,8 +52,9 @@ pub record RowMoved (code mark up : List ℕ) (i : ℕ) (parent moved : List ℕ
   pub parents : parent' ≡ set parent j (parent_moved up moved i)
   pub moves : moved' ≡ set moved i j
 
--- spans, parents and the number of rows are what they were
+-- numbers of children, spans, parents and the number of rows are what they were
 pub record SameShape (t t' : TreeRows) : Type 0 where
+  pub kids : t'.kids ≡ t.kids
   pub span : t'.span ≡ t.span
   pub up : t'.up ≡ t.up
   pub len : t'.len ≡ t.len

@@ -1,7 +1,7 @@
 // Folding rows in image order to the end, and the rows that are left put together.
 #![tactic(auto)]
 
-ghost use Rattle.std.specs.Prelude.{◌≡◌, ◌⊎◌, ◌<◌, length, get_or, set};
+ghost use Rattle.std.specs.Prelude.{◌≡◌, ◌⊎◌, ◌≤◌, ◌<◌, length, get_or};
 ghost use Rattle.meaning.specs.Limits.{most_nodes};
 ghost use Rattle.rows.specs.Rows.{no_row};
 ghost use Rattle.onto.specs.Left.{nodes_of, Remarked};
@@ -22,45 +22,37 @@ pub fn fold_rows(t: &mut TreeRows, child: &mut Starts)
     }
 }
 
-// The new number of row i's parent: the new places of rows are noted where their numbers of children were.
+// The new number of row i's parent.
 #[tactic(auto, using(crate::proofs::Moved::parent_top, crate::proofs::Moved::parent_row))]
-fn parent_moved(t: &TreeRows, i: usize) -> u16
-    requires { (i < most_nodes) × ((get_or t.now.up i 0 ≡ no_row) ⊎ (get_or t.now.up i 0 < most_nodes)) }
-    ensures { result ≡ parent_moved t.now.up t.now.kids i }
+fn parent_moved(up: &Links, moved: &[u16], i: usize) -> u16
+    requires { (most_nodes ≤ length moved.now) × (i < most_nodes)
+        × ((get_or up.now i 0 ≡ no_row) ⊎ (get_or up.now i 0 < most_nodes)) }
+    ensures { result ≡ parent_moved up.now moved.now i }
 {
-    let p = t.up[i];
-    if p == NO_ROW { NO_ROW } else { t.kids[wide(p)] }
-}
-
-// The new place of row i is noted among the numbers of children, which nobody reads any more.
-fn note_place(kids: &mut Links, i: usize, j: usize)
-    requires { (i < most_nodes) × (j < most_nodes) }
-    ensures { (kids.new ≡ set kids.old i j) × (length kids.old ≡ most_nodes) }
-{
-    kids[i] = j as u16;
+    let p = up[i];
+    if p == NO_ROW { NO_ROW } else { moved[wide(p)] }
 }
 
 // Row i is put at place j.
-fn move_row(t: &mut TreeRows, i: usize, parent: &mut Links, j: usize)
-    requires { Movable t.old.up i j }
-    ensures { RowMoved t.old.code t.old.mark t.old.up i parent.old t.old.kids j
-        t.new.code t.new.mark parent.new t.new.kids
-        × SameShape t.old t.new
-        × (length t.old.kids ≡ most_nodes) }
+fn move_row(t: &mut TreeRows, i: usize, parent: &mut Links, moved: &mut [u16], j: usize)
+    requires { Movable t.old.up i j × (most_nodes ≤ length moved.old) }
+    ensures { RowMoved t.old.code t.old.mark t.old.up i parent.old moved.old j
+        t.new.code t.new.mark parent.new moved.new
+        × SameShape t.old t.new }
 {
     t.code[j] = t.code[i];
     t.mark[j] = t.mark[i];
-    parent[j] = parent_moved(t, i);
-    note_place(&mut t.kids, i, j);
+    parent[j] = parent_moved(&t.up, moved, i);
+    moved[i] = j as u16;
 }
 
 // The rows that are still there, in their order, are put to the front, each with the new number of its parent. Returns how many there are.
-// The numbers of children are lent to work in.
-pub fn keep_rows(t: &mut TreeRows, parent: &mut Links) -> usize
-    requires { Remains t.old.code t.old.mark t.old.span t.old.up t.old.len }
+// The slice `moved` is lent to work in: the new place of each row is noted there.
+pub fn keep_rows(t: &mut TreeRows, parent: &mut Links, moved: &mut [u16]) -> usize
+    requires { Remains t.old.code t.old.mark t.old.span t.old.up t.old.len × (most_nodes ≤ length moved.old) }
     ensures { RowsKept t.old.code t.old.mark t.old.span t.old.len
         t.new.code t.new.mark parent.new result
-        × SameShape t.old t.new }
+        × SameShape t.old t.new × (length moved.new ≡ length moved.old) }
 {
     let mut i: usize = 0;
     let mut j: usize = 0;
@@ -69,7 +61,7 @@ pub fn keep_rows(t: &mut TreeRows, parent: &mut Links) -> usize
         if is_gone(&t.mark, i) {
             i += at(&t.span, i);
         } else {
-            move_row(t, i, parent, j);
+            move_row(t, i, parent, moved, j);
             j += 1;
             i += 1;
         }

@@ -38,7 +38,7 @@ impl Lists {
     // Gives each parent the list of its children, in the order of the table.
     pub(crate) fn gather(&mut self, parent: &[u16], n: usize)
         requires { Hangs parent.now n }
-        ensures { Gathered parent.now n 0 self.new.first self.new.next }
+        ensures { Gathered parent.now n 0 self.new.first self.new.next × Lent self.new.first self.new.next }
     {
         self.clear(n);
         // from the last row to the first: a row is put in front of its later brothers

@@ -1,6 +1,6 @@
 // A tree of links laid out as rows in image order.
 ghost use Rattle.std.specs.Prelude.{◌≡◌};
-ghost use Rattle.rows.specs.Trees.{IsTree, tree_of};
+ghost use Rattle.rows.specs.Trees.{IsTree, HasRoom, tree_of};
 ghost use Rattle.order.specs.Links.{Listed};
 ghost use Rattle.order.specs.Contract.{Tagged, tree_of_lists};
 
@@ -16,7 +16,8 @@ const TOP: usize = NO_ROW as usize;
 // its number of children is that of its earlier brothers.
 pub fn lay(table: Table<'_>, lists: &Lists, rows: &mut TreeRows)
     requires { Tagged table.code.now table.mark.now table.n × Listed table.n lists.now.first lists.now.next }
-    ensures { IsTree rows.new × (tree_of rows.new ≡ tree_of_lists table.entry lists.now) × (rows.new.len ≡ table.entry.n) }
+    ensures { IsTree rows.new × (tree_of rows.new ≡ tree_of_lists table.entry lists.now) × (rows.new.len ≡ table.entry.n)
+        × HasRoom rows.new }
 {
     let n = table.n;
     let mut v: usize = 0;

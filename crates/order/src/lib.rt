@@ -10,8 +10,8 @@ mod laying; // laying.rt: lists laid out as rows
 ghost use Rattle.std.specs.Prelude.{◌≡◌};
 ghost use Rattle.meaning.specs.Image.{ordered};
 ghost use Rattle.rows.specs.Table.{ParentsFirst};
-ghost use Rattle.rows.specs.Trees.{IsTree, tree_of};
-ghost use Rattle.order.specs.Contract.{IsTable, tree_of_table};
+ghost use Rattle.rows.specs.Trees.{IsTree, HasRoom, tree_of};
+ghost use Rattle.order.specs.Contract.{IsTable, tree_of_table, Lent};
 
 use crate::laying::lay;
 pub use children::Lists;
@@ -32,7 +32,8 @@ pub struct Table<'a> {
 // left with means nothing.
 pub fn image_rows(table: Table<'_>, lists: &mut Lists, rows: &mut TreeRows)
     requires { IsTable table × ParentsFirst table.parent.now table.n }
-    ensures { IsTree rows.new × (tree_of rows.new ≡ ordered (tree_of_table table.entry)) × (rows.new.len ≡ table.entry.n) }
+    ensures { IsTree rows.new × (tree_of rows.new ≡ ordered (tree_of_table table.entry)) × (rows.new.len ≡ table.entry.n)
+        × HasRoom rows.new }
 {
     let mut key = [0u64; MOST_NODES];
     lists.sort_rows(table, &mut key);
@@ -43,7 +44,8 @@ pub fn image_rows(table: Table<'_>, lists: &mut Lists, rows: &mut TreeRows)
 // one call in two, and its promise: a function that takes the step as a closure would be no shorter, and its clauses longer.
 pub fn tree_rows(table: Table<'_>, lists: &mut Lists, rows: &mut TreeRows)
     requires { IsTable table }
-    ensures { IsTree rows.new × (tree_of rows.new ≡ tree_of_table table.entry) × (rows.new.len ≡ table.entry.n) }
+    ensures { IsTree rows.new × (tree_of rows.new ≡ tree_of_table table.entry) × (rows.new.len ≡ table.entry.n)
+        × HasRoom rows.new × Lent lists.new.first lists.new.next }
 {
     lists.gather(table.parent, table.n);
     lay(table, lists, rows);

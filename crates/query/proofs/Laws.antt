@@ -75,4 +75,4 @@ module _ (word P L : List ℕ) (o : code.Option Built) (r : Built) (er : r ≡ k
 
   -- rows of the table's tree are rows of the word's
   pub built_rows : (F : Option Query → Forest Tag) {t : TreeRows} → RowsAre (F (query_of P L r.rows r.s r.d)) t → RowsOf (λ e. F (plain e)) word t
-  built_rows F A = record { rows = A.rows; tree = λ e w. A.tree ∙ ap F (sym (plain_built e w)) }
+  built_rows F A = record { rows = A.rows; tree = λ e w. A.tree ∙ ap F (sym (plain_built e w)); room = A.room }

@@ -67,7 +67,7 @@ fn left_rows(folded: bool, rows: &mut TreeRows, child: &mut Starts, parent: &mut
         return;
     }
     fold::fold_rows(rows, child);
-    rows.len = fold::keep_rows(rows, parent);
+    rows.len = fold::keep_rows(rows, parent, child);
 }
 
 // The tree of rows with these parents, who stand before their children, with brothers in image order. The rows are written over their own place, from

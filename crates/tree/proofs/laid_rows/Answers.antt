@@ -13,4 +13,4 @@ tree_rows-requires c = let q = c.requires in let m = c.mark_ends in marked_table
 pub returns : goal.returns
 returns c =
     let q = c.requires in let m = c.mark_ends in let t = c.tree_rows.ensures in
-    record { rows = t.0; tree = t.1 ∙ marked_tree _ _ _ _ _ q _ (omega (arith, m.array_long, q.few)) m.ensures }
+    record { rows = t.0; tree = t.1 ∙ marked_tree _ _ _ _ _ q _ (omega (arith, m.array_long, q.few)) m.ensures; room = t.3 }

@@ -29,7 +29,7 @@ pub loop-x-preserved-then-x-n : goal.loop-x-preserved-then-x-n
 loop-x-preserved-then-x-n c = laying_down c.loop-x.invariant c.if-x-n.true c.at-x-then-x-n.ensures.0
 
 pub returns-then-u-eq-TOP : goal.returns-then-u-eq-TOP
-returns-then-u-eq-TOP c = let r = laid_rows c.loop-x.invariant c.if-x-n.false c.if-u-eq-TOP.true in (r.0, r.1, refl)
+returns-then-u-eq-TOP c = let r = laid_rows c.loop-x.invariant c.if-x-n.false c.if-u-eq-TOP.true in (r.0, r.1, refl, c.loop-x.invariant.room)
 
 pub loop-x-preserved : goal.loop-x-preserved
 loop-x-preserved c =
