@@ -10,7 +10,7 @@ use lib.ListN.{get_or}
 use lib.Dec.{ltb}
 use borrow.Author.Tests.{lt-ltb, le-ltb, ltb-true}
 use Rattle.std.specs.Prelude.{Option, Some}
-use Rattle.std.specs.Ordering.{ordering_then, is_ne, is_le, nat_cmp}
+use Rattle.std.specs.Ordering.{ordering_then, is_ne, is_lt, is_le, nat_cmp}
 use Rattle.std.specs.declared.cmp.Ordering.{Ordering}
 use Rattle.std.specs.declared.cmp.Ordering.TheVariants.{Less, Equal, Greater}
 use Rattle.meaning.specs.Tree.{Forest, bare, tree, size}
@@ -184,18 +184,18 @@ module _ (n : ℕ) (fs ns key : List ℕ) (c q : ℕ) where
   abbrev b : ℕ
   b = get_or key q 0
 
-  pub first_less : nat_cmp a b ≡ Less → true ≡ goes_first n fs ns key c q
+  -- the keys tell
+  pub first_keys : (o : Ordering) → o ≡ nat_cmp a b → is_ne o ≡ true → is_lt o ≡ goes_first n fs ns key c q
   unfolding goes_first
-  first_less e = sym (rw e)
+  first_keys Less e d = sym (rw (← e))
+  first_keys Equal e d = never cc
+  first_keys Greater e d = sym (rw (← e))
 
-  pub first_more : nat_cmp a b ≡ Greater → false ≡ goes_first n fs ns key c q
-  unfolding goes_first
-  first_more e = sym (rw e)
-
-  pub first_kids : nat_cmp a b ≡ Equal → {i j : ℕ} → i ≡ get_or fs c 0 → j ≡ get_or fs q 0 → {o : Ordering} → o ≡ compared_at n fs ns key i j
-      → is_le o ≡ goes_first n fs ns key c q
+  -- what lies below tells
+  pub first_kids : {k : Ordering} → k ≡ nat_cmp a b → is_ne k ≡ false → {i j : ℕ} → i ≡ get_or fs c 0 → j ≡ get_or fs q 0 → {o : Ordering}
+      → o ≡ compared_at n fs ns key i j → is_le o ≡ goes_first n fs ns key c q
   unfolding goes_first compared_at
-  first_kids e ei ej eo = sym (rw (e, ← ei, ← ej, ← eo))
+  first_kids {k} e d ei ej eo = sym (rw (← e, is_equal k d, ← ei, ← ej, ← eo))
 
 -- ------------------------------------------------------------------ the place of a tree in a list
 -- the tree at c with k below it, the last brother p that goes before it, and the brothers from `at` on
