@@ -4,7 +4,6 @@ ghost use Rattle.meaning.specs.Expression.{Expr};
 ghost use Rattle.meaning.specs.Gluing.{plain};
 ghost use Rattle.meaning.specs.Limits.{most_pending};
 ghost use Rattle.meaning.specs.Word.{answered, and_then, read_word};
-ghost use Rattle.word.specs.Sign.{number_of, Numbered};
 ghost use Rattle.glue.specs.Rows.{pool_rows};
 ghost use Rattle.glue.specs.Trees.{built_of};
 ghost use Rattle.pool.specs.Pool.{held, SameSlices, Passes, Applies, PoolForNone, PoolForOnly};
@@ -12,20 +11,18 @@ ghost use Rattle.pool.specs.Pool.{held, SameSlices, Passes, Applies, PoolForNone
 use crate::operand::Pool;
 use glue::trees::Built;
 use word::cursor::{Cursor, read_sign};
-use word::sign::Sign;
 
 // The rows of the pool: an operand has at most one more than it has steps, so 255 steps and 256 pending operands use 511.
 pub const POOL_ROWS: usize = 512;
 
 impl<'a> Pool<'a> {
     // One sign of an accepted word.
-    fn apply_sign(&mut self, sign: Sign)
-        requires number { Numbered sign }
-        requires passes { Passes (held self.old) self.old.pending (number_of sign) }
+    fn apply_sign(&mut self, number: u32)
+        requires { Passes (held self.old) self.old.pending number }
         ensures slices { SameSlices self.old self.new }
-        ensures sign { Applies (held self.old) self.old.pending (number_of sign) (held self.new) self.new.pending }
+        ensures sign { Applies (held self.old) self.old.pending number (held self.new) self.new.pending }
     {
-        let latest = self.make(sign);
+        let latest = self.make(number);
         self.put_latest(latest);
     }
 
@@ -39,7 +36,7 @@ impl<'a> Pool<'a> {
         let mut cursor = Cursor { at: 0 };
         while cursor.at < word.len() {
             let read = read_sign(&mut cursor, word).unwrap();
-            self.apply_sign(Sign::from(read.value));
+            self.apply_sign(read.value);
         }
     }
 }

@@ -44,27 +44,32 @@ fn code_of(sign: Sign) -> u32
 }
 
 // "self and a label give one node, child a top s with one child d; parent the same with s and d exchanged": the rows and marks of an operand sign.
+// One comparison after the other and no `match`, for the reason that `kind_of` (word) gives.
 fn shape(sign: Sign) -> Option<Built>
     ensures { (rows_in result ≤ 2) × ((e : Expr) → sign_of (number_of sign) ≡ operand e → topped (number_of sign - 8) result ≡ plain e) }
 {
-    match sign {
-        Sign::Empty => None,
-        Sign::Child => Some(Built {
+    if sign == Sign::Empty {
+        return None;
+    }
+    if sign == Sign::Child {
+        return Some(Built {
             rows: 2,
             s: 0,
             d: 1,
-        }),
-        Sign::Parent => Some(Built {
+        });
+    }
+    if sign == Sign::Parent {
+        return Some(Built {
             rows: 2,
             s: 1,
             d: 0,
-        }),
-        _ => Some(Built {
-            rows: 1,
-            s: 0,
-            d: 0,
-        }),
+        });
     }
+    Some(Built {
+        rows: 1,
+        s: 0,
+        d: 0,
+    })
 }
 
 // "Projections move one mark to the other's node, inverse exchanges them."
@@ -164,13 +169,13 @@ impl<'a> Pool<'a> {
     }
 
     // What a sign that the check of the word lets pass makes of the latest operands, in the rows.
-    pub fn make(&mut self, sign: Sign) -> Latest
-        requires number { Numbered sign }
-        requires passes { Passes (held self.old) self.old.pending (number_of sign) }
+    pub fn make(&mut self, number: u32) -> Latest
+        requires { Passes (held self.old) self.old.pending number }
         ensures rows { OnlyRows self.old self.new }
-        ensures latest { Makes (held self.old) self.old.pending (number_of sign) result self.new.parent.now self.new.label.now }
+        ensures latest { Makes (held self.old) self.old.pending number result self.new.parent.now self.new.label.now }
     {
-        match kind_of(sign) {
+        let sign = Sign::from(number);
+        match kind_of(number) {
             Kind::Unary => self.turn(sign),
             Kind::Binary => self.glue_latest(sign),
             _ => self.lay(sign),

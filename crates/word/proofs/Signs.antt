@@ -1,7 +1,9 @@
 -- The table of signs: each by its number, the labels from 9 on, and no two signs by one number.
 use mathlib.Core.Path.{◌≡◌, refl, sym, ap, ◌∙◌}
+use mathlib.Core.Logic.{◌⊎◌, inl, inr, ⊎_elim}
 use mathlib.Core.List.{List, [], ◌∷◌}
-use Prim.Native.Nat.{ℕ, ◌+◌, ◌-◌, ◌≤◌}
+use Prim.Native.Nat.{ℕ, ◌+◌, ◌-◌, ◌<◌, ◌≤◌}
+use native.Mathlib.Decide.{ℕ_discrete}
 use native.Mathlib.Omega.{arith}
 use lib.ListN.{get_or, get_or-eq_default}
 use borrow.Author.Tests.{ne_eqb}
@@ -38,14 +40,20 @@ pub number_unique : (s t : Sign) → number_of s ≡ number_of t → s ≡ t
 number_unique s t e = sym (named_number s) ∙ ap named e ∙ named_number t
 
 -- ------------------------------------------------------------------ kinds
-pub kind_is : {K : Kind} {s : Sign} (a : Sign) → K ≡ kind_of (number_of a) → s ≡ a → K ≡ kind_of (number_of s)
-kind_is a k e = rw e k
+pub one_of_two : (j n : ℕ) → j ≤ n → n < j + 2 → (n ≡ j) ⊎ (n ≡ j + 1)
+one_of_two j n h k = elim (ℕ_discrete n j) [
+  | yes e ↦ inl e
+  | no e ↦ inr (omega arith)
+]
+
+pub kind_of_two : {K : Kind} (j k n : ℕ) → K ≡ kind_of j → K ≡ kind_of k → (n ≡ j) ⊎ (n ≡ k) → K ≡ kind_of n
+kind_of_two j k n p q = ⊎_elim (λ e. p ∙ ap kind_of (sym e)) (λ e. q ∙ ap kind_of (sym e))
 
 -- "9+L: label L"
 pub sign_label : (n : ℕ) → 9 ≤ n → sign_of n ≡ operand (label (n - 9))
 unfolding sign_of
 sign_label n h = get_or-eq_default signs (operand (label (n - 9))) h
 
-pub kind_label : (l : ℕ) → Operand ≡ kind_of (9 + l)
+pub kind_label : (n : ℕ) → 9 ≤ n → Operand ≡ kind_of n
 unfolding kind_of is_step
-kind_label l = rw (sign_label (9 + l) (omega arith), ne_eqb (9 + l) 2 (λ e. omega arith), ne_eqb (9 + l) 3 (λ e. omega arith))
+kind_label n h = rw (sign_label n h, ne_eqb n 2 (λ e. omega arith), ne_eqb n 3 (λ e. omega arith))

@@ -4,10 +4,9 @@ ghost use Rattle.std.specs.Prelude.{◌≡◌, length};
 ghost use Rattle.meaning.specs.Word.{Pending, takes, read_word};
 ghost use Rattle.limits.specs.Refusal.{outcome_of};
 ghost use Rattle.word.specs.Answer.{counts_of, counting, at_last, all_signs, verdict};
-ghost use Rattle.word.specs.Sign.{number_of};
 
 use crate::cursor::{Cursor, read_sign};
-use crate::sign::{Kind, Sign, kind_of};
+use crate::sign::{Kind, kind_of};
 use limits::most::{LONGEST_WORD, MOST_PENDING, MOST_STEPS};
 use limits::refusal::Refusal::{
     BadNumber, MissingOperand, NotOneOperand, TooManyPending, TooManySteps, WordTooLong,
@@ -22,8 +21,8 @@ struct Counts {
 }
 
 // One sign, whatever the pending operands are that `counts` counts; "at one sign 4 goes before 5".
-fn take_sign(counts: Counts, sign: Sign, at: usize) -> Result<Counts, Refused>
-    ensures { (st : Pending) → counts_of st ≡ counts → outcome_of result ≡ counting (takes (number_of sign) st at) }
+fn take_sign(counts: Counts, sign: u32, at: usize) -> Result<Counts, Refused>
+    ensures { (st : Pending) → counts_of st ≡ counts → outcome_of result ≡ counting (takes sign st at) }
 {
     let Counts { pending, steps } = counts;
     match kind_of(sign) {
@@ -62,7 +61,7 @@ fn check_signs(word: &[u8]) -> Result<Counts, Refused>
         let Some(read) = read_sign(&mut cursor, word) else {
             return Err(BadNumber.at(at));
         };
-        counts = take_sign(counts, Sign::from(read.value), at)?;
+        counts = take_sign(counts, read.value, at)?;
     }
     Ok(counts)
 }

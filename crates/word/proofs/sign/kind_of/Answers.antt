@@ -1,25 +1,35 @@
--- The signs of each kind, one by one.
-use Rattle.std.proofs.Common.{refl}
-use mathlib.Core.Logic.{⊎_elim}
+-- The nine signs by their numbers, and the labels behind them.
+use Rattle.std.proofs.Common.{refl, arith}
 use Rattle.meaning.specs.Word.{sign_of, is_step}
 use Rattle.word.specs.Sign.{kind_of}
-use Rattle.word.specs.declared.sign.Sign.TheVariants.{Empty, Itself, Child, Parent, Composition, FirstProjection, SecondProjection, Intersection, Inverse}
-use Rattle.word.proofs.Signs.{kind_is, kind_label}
+use Rattle.word.proofs.Signs.{one_of_two, kind_of_two, kind_label}
 use Rattle.word.proofs.sign.kind_of.Goals as goal
 
-pub returns-in-Empty : goal.returns-in-Empty
+-- 4 and 7
+pub returns-in-4 : goal.returns-in-4
 unfolding kind_of sign_of is_step
-returns-in-Empty c = ⊎_elim (kind_is Empty refl) (⊎_elim (kind_is Itself refl) (λ (l, e). rw e (kind_label l))) c.in-Empty.is
+returns-in-4 c = kind_of_two 4 7 _ refl refl c.in-4.is
 
-pub returns-in-Child : goal.returns-in-Child
+-- 0 and 1
+pub returns-in-0 : goal.returns-in-0
 unfolding kind_of sign_of is_step
-returns-in-Child c = ⊎_elim (kind_is Child refl) (kind_is Parent refl) c.in-Child.is
+returns-in-0 c = kind_of_two 0 1 _ refl refl (one_of_two 0 c.args.sign (omega arith) (omega arith))
 
-pub returns-in-Composition : goal.returns-in-Composition
+-- 2 and 3
+pub returns-in-2 : goal.returns-in-2
 unfolding kind_of sign_of is_step
-returns-in-Composition c = ⊎_elim (kind_is Composition refl) (kind_is Intersection refl) c.in-Composition.is
+returns-in-2 c = kind_of_two 2 3 _ refl refl (one_of_two 2 c.args.sign (omega arith) (omega arith))
 
-pub returns-in-FirstProjection : goal.returns-in-FirstProjection
+-- 9 and above: the labels
+pub returns-in_default : goal.returns-in_default
+returns-in_default c = kind_label c.args.sign (grind arith)
+
+-- 8
+pub returns-in-5 : goal.returns-in-5
 unfolding kind_of sign_of is_step
-returns-in-FirstProjection c =
-    ⊎_elim (kind_is FirstProjection refl) (⊎_elim (kind_is SecondProjection refl) (kind_is Inverse refl)) c.in-FirstProjection.is
+returns-in-5 c = rw c.in-5.is
+
+-- 5 and 6
+pub returns-in-5-2 : goal.returns-in-5-2
+unfolding kind_of sign_of is_step
+returns-in-5-2 c = kind_of_two 5 6 _ refl refl (one_of_two 5 c.args.sign (grind arith) (grind arith))

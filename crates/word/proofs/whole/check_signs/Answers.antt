@@ -15,7 +15,7 @@ returns-in_default c = rw c.at.ensures (checking_broken c.loop-cursor.invariant 
 pub returns-in_err-counts : goal.returns-in_err-counts
 returns-in_err-counts c =
     let p = err_from_is_err_and c.from_residual.result c.from_residual.ensures.1 in
-    rw (p.1, p.2) (checking_refused c.loop-cursor.invariant c.loop-cursor-test.true _ c.in-Some.ensures.0 (rw c.from.ensures at c.in_err-counts.ensures))
+    rw (p.1, p.2) (checking_refused c.loop-cursor.invariant c.loop-cursor-test.true _ c.in-Some.ensures.0 c.in_err-counts.ensures)
 
 pub loop-cursor-smaller : goal.loop-cursor-smaller
 loop-cursor-smaller c =
@@ -25,7 +25,7 @@ loop-cursor-smaller c =
 pub loop-cursor-preserved : goal.loop-cursor-preserved
 loop-cursor-preserved c =
     let (got, past) = c.in-Some.ensures in
-    rw past (checking_next c.loop-cursor.invariant c.loop-cursor-test.true _ got (rw c.from.ensures at c.in_ok-counts.ensures))
+    rw past (checking_next c.loop-cursor.invariant c.loop-cursor-test.true _ got c.in_ok-counts.ensures)
 
 pub returns : goal.returns
 returns c = checking_last c.loop-cursor.invariant c.loop-cursor-test.false

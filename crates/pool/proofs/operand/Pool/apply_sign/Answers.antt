@@ -1,15 +1,14 @@
 -- A sign makes the latest operand; that is put in its place.
-use Rattle.word.specs.Sign.{number_of}
 use Rattle.pool.proofs.Slices.{latest_slices, latest_fits, latest_applies}
 use Rattle.pool.proofs.operand.Pool.apply_sign.Goals as goal
 
 pub put_latest-requires : goal.put_latest-requires
 put_latest-requires c =
-    let m = c.make-latest.ensures in let (st, st', at, h, t) = c.requires.passes in
-    latest_fits _ _ m.rows _ (number_of c.args.sign) st' (m.latest st st' at h t)
+    let m = c.make-latest.ensures in let (st, st', at, h, t) = c.requires in
+    latest_fits _ _ m.rows _ c.args.number st' (m.latest st st' at h t)
 
 pub returns-clause-slices : goal.returns-clause-slices
-returns-clause-slices c = rw c.put_latest.ensures (latest_slices _ _ c.make-latest.ensures.rows c.make-latest.result (number_of c.args.sign))
+returns-clause-slices c = rw c.put_latest.ensures (latest_slices _ _ c.make-latest.ensures.rows c.make-latest.result c.args.number)
 
 pub returns-clause-sign : goal.returns-clause-sign
 returns-clause-sign c =

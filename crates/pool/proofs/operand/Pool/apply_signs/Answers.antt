@@ -11,10 +11,10 @@ loop-cursor-init c = (refl, rw c.requires.2 (reading_start _ _ (c.requires.0, c.
 pub unwrap-read-requires : goal.unwrap-read-requires
 unwrap-read-requires c = reading_some _ _ _ _ c.loop-cursor.invariant.1 c.loop-cursor-test.true _ c.read_sign.ensures.0
 
-pub apply_sign-requires-clause-passes : goal.apply_sign-requires-clause-passes
-apply_sign-requires-clause-passes c =
+pub apply_sign-requires : goal.apply_sign-requires
+apply_sign-requires c =
     let (got, past) = rw c.unwrap-read.ensures at c.read_sign.ensures in
-    rw c.from.ensures (reading_passes _ _ _ _ c.loop-cursor.invariant.1 c.loop-cursor-test.true _ got)
+    reading_passes _ _ _ _ c.loop-cursor.invariant.1 c.loop-cursor-test.true _ got
 
 pub loop-cursor-smaller : goal.loop-cursor-smaller
 loop-cursor-smaller c =
@@ -26,7 +26,7 @@ loop-cursor-preserved c =
     let (got, past) = rw c.unwrap-read.ensures at c.read_sign.ensures in
     let h = c.loop-cursor.invariant in (
       slices_then c.args.self.now c.loop-cursor.self c.apply_sign.new.self h.0 c.apply_sign.ensures.slices,
-      rw past (reading_next _ _ _ _ h.1 c.loop-cursor-test.true _ got (rw c.from.ensures at c.apply_sign.ensures.sign)),
+      rw past (reading_next _ _ _ _ h.1 c.loop-cursor-test.true _ got c.apply_sign.ensures.sign),
     )
 
 pub returns-clause-only : goal.returns-clause-only
