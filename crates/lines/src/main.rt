@@ -22,7 +22,17 @@ fn is_between(c: &u8) -> bool {
 
 // Whether the line is a word: the two digits of each byte stand together, and nothing but blanks between the bytes.
 fn is_word(line: &[u8]) -> bool {
-    line.split(is_between).all(|run| run.len() % 2 == 0 && run.iter().all(u8::is_ascii_hexdigit))
+    let mut half = false;
+    for c in line {
+        if is_between(c) && !half {
+            continue;
+        }
+        if !c.is_ascii_hexdigit() {
+            return false;
+        }
+        half = !half;
+    }
+    !half
 }
 
 // The bytes of the line, as many as the word holds; how many they are.
@@ -46,13 +56,18 @@ fn write_text<W: Write>(to: &mut W, word: &[u8]) -> io::Result<()> {
     to.write_all(&text[..length])
 }
 
+// What is due for a line that is a word: a function of its own, since one that holds an array clears it at its entry, for lines that are no word too.
+fn report_word<W: Write>(to: &mut W, line: &[u8]) -> io::Result<()> {
+    let mut word = [0; WORD];
+    let n = bytes_of(line, &mut word);
+    write_text(to, &word[..n])
+}
+
 fn report_line<W: Write>(to: &mut W, line: &[u8]) -> io::Result<()> {
     if !is_word(line) {
         return to.write_all(b"no word\n");
     }
-    let mut word = [0; WORD];
-    let n = bytes_of(line, &mut word);
-    write_text(to, &word[..n])
+    report_word(to, line)
 }
 
 // The line again, and behind it what is due for its word. A comment has nothing behind it.
