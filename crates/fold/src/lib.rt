@@ -47,7 +47,8 @@ fn move_row(t: &mut TreeRows, i: usize, parent: &mut Links, moved: &mut [u16], j
 }
 
 // The rows that are still there, in their order, are put to the front, each with the new number of its parent. Returns how many there are.
-// The slice `moved` is lent to work in: the new place of each row is noted there.
+// The slice `moved` is lent to work in: the new place of each row is noted there. It is beside the rows, not among them: their numbers of children
+// stay.
 pub fn keep_rows(t: &mut TreeRows, parent: &mut Links, moved: &mut [u16]) -> usize
     requires { Remains t.old.code t.old.mark t.old.span t.old.up t.old.len × (most_nodes ≤ length moved.old) }
     ensures { RowsKept t.old.code t.old.mark t.old.span t.old.len

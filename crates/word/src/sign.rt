@@ -77,7 +77,7 @@ pub enum Kind {
 
 // "Signs 4 and 7 take the two latest operands, the earlier as first; 5, 6 and 8 take one. Signs 2 and 3 are steps."
 // By its number and not as a `Sign`: numbers are compared, where the ten cases of an enum become a jump through a table. Tried: the processor guesses
-// that jump wrongly at most signs of a word without a pattern, and to ask such a word again and again took 1.4 to 2.4 times as long.
+// that jump wrongly at most signs of a word without a pattern, and to ask such a word again and again took 1.4 to 2.8 times as long.
 pub fn kind_of(sign: u32) -> Kind
     ensures { result ≡ kind_of sign }
 {
