@@ -5,6 +5,10 @@ use Rattle.pair.proofs.Climbing.{up_less}
 use Rattle.pair.proofs.Pair.{in_table, parent_node, climbed_more, climbed_not, climbed_all}
 use Rattle.pair.proofs.climbs.Goals as goal
 
+-- the check finds it alone; it stands here so that the log of must-fail/top_only names the fact
+pub loop-at-init : goal.loop-at-init
+loop-at-init c = (c.requires.3, λ mark q l. (l, (λ a. a, λ a. a)))
+
 pub climb-requires : goal.climb-requires
 climb-requires c =
     let (i, k) = c.loop-at.invariant in let (mark, q, lu, _) = c.requires in
