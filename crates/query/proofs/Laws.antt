@@ -73,6 +73,11 @@ module _ (word P L : List ℕ) (o : code.Option Built) (r : Built) (er : r ≡ k
       query_table P L r.rows r.s r.d (suc (steps e)) (omega (arith, a.0)) lp ll (subst (AtMost (suc (steps e))) b (few_nodes e))
       (subst (RowsIn InRange) b (plain_labels InRange e a.1)) (subst TreeO b (means_tree (pairs e) (plain e) (plain_means e)))
 
-  -- rows of the table's tree are rows of the word's
+  -- a tree of the table is the word's
+  pub built_tree : (F : Option Query → Forest Tag) {T : Forest Tag} → T ≡ F (query_of P L r.rows r.s r.d)
+      → (e : Expr) → read_word word ≡ answered e → T ≡ F (plain e)
+  built_tree F q e w = q ∙ ap F (sym (plain_built e w))
+
+  -- so rows of the table's tree are rows of the word's
   pub built_rows : (F : Option Query → Forest Tag) {t : TreeRows} → RowsAre (F (query_of P L r.rows r.s r.d)) t → RowsOf (λ e. F (plain e)) word t
-  built_rows F A = record { rows = A.rows; tree = λ e w. A.tree ∙ ap F (sym (plain_built e w)); room = A.room }
+  built_rows F A = record { rows = A.rows; tree = built_tree F A.tree; room = A.room }

@@ -5,9 +5,11 @@ use Rattle.pathplus.proofs.OfRows.{query_rows}
 use Rattle.pathplus.proofs.question.tell.Goals as goal
 
 pub taken-requires : goal.taken-requires
-taken-requires c = let (acc, N) = c.requires in (query_rows Minimal c.word_rows.ensures acc, N)
+taken-requires c =
+    let ((e, a), N) = c.requires in
+    let of = c.word_rows.ensures in (query_rows Minimal e of.rows (of.tree e a), N)
 
 pub returns : goal.returns
 returns c =
-    let (acc, N) = c.requires in
-    selects_told _ acc.1 N (c.word_rows.ensures.tree acc.0 acc.1) c.taken.ensures
+    let ((e, a), N) = c.requires in
+    selects_told _ a N (c.word_rows.ensures.tree e a) c.taken.ensures

@@ -5,10 +5,14 @@ use Rattle.pathplus.proofs.OfRows.{rows_form, form_written, query_rows}
 use Rattle.pathplus.proofs.writers.write_accepted.Goals as goal
 
 pub fit-requires : goal.fit-requires
-fit-requires c = query_rows c.args.form (rows_form c.args.form c.is_folded.ensures c.word_rows.ensures) c.requires
+fit-requires c =
+    let (e, a) = c.requires in
+    let of = rows_form c.args.form c.is_folded.ensures c.word_rows.ensures in
+    query_rows c.args.form e of.rows (of.tree e a)
 
 pub returns : goal.returns
 returns c =
-    let rows = rows_form c.args.form c.is_folded.ensures c.word_rows.ensures in
-    let bytes = form_written c.args.form rows c.requires in
-    writes_fitted (form_of c.args.form) c.requires.1 (rw bytes at c.fit.ensures)
+    let (e, a) = c.requires in
+    let of = rows_form c.args.form c.is_folded.ensures c.word_rows.ensures in
+    let bytes = form_written c.args.form e of.rows (of.tree e a) in
+    writes_fitted (form_of c.args.form) a (rw bytes at c.fit.ensures)
